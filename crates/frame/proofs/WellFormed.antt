@@ -1,0 +1,55 @@
+-- A frame is read exactly when it is well formed.
+use mathlib.Core.Path.{_≡_, refl, sym, ap, _∙_}
+use mathlib.Core.List.{List}
+use mathlib.Core.Bool.{true}
+use Prim.Native.Nat.{ℕ, _+_, _*_}
+use native.Mathlib.Omega.{arith}
+use lib.ListN.{length}
+use lib.Seq.{take-all}
+use Rattle.frame.specs.Claims.{Octets, WellFormed, ReadsWellFormed}
+use Rattle.frame.specs.Frame.{frame, stationsIn, senderIn, countsIn}
+use Rattle.frame.specs.Reading.{Reading, countsOf, senderOf, reading}
+use Rattle.frame.proofs.Accepted.{Readable, readable, reading-of}
+use Rattle.frame.proofs.Body.{length-frame, length-countsOf, countsOf-frame, frame-front}
+use Rattle.frame.proofs.Ranges.{stations-range, sender-range, counts-range}
+
+-- what is read from bytes makes them again
+pub frame-countsOf : (n : ℕ) (bytes : List ℕ) → Octets bytes → Readable n bytes → frame (senderOf bytes) (countsOf n bytes) ≡ bytes
+frame-countsOf n bytes o r = frame-front n bytes o (r .mark) (omega arith) ∙ take-all (2 + 2 * n) bytes (omega arith)
+
+-- a frame of numbers in their ranges is read
+pub readable-frame : (n sender : ℕ) (counts : List ℕ) → stationsIn n ≡ true → length counts ≡ n → senderIn n sender ≡ true → countsIn sender counts ≡ true → Readable n (frame sender counts)
+unfolding frame
+readable-frame n sender counts a b c d =
+    record {
+      stations = a;
+      size = length-frame sender counts ∙ rw b;
+      mark = refl;
+      sender = c;
+      counts = rw (countsOf-frame n sender counts b) d;
+    }
+
+pub reads-well-formed : ReadsWellFormed
+reads-well-formed n bytes o = (formed, read)
+  where
+    formed : reading n bytes .refusal ≡ 0 → WellFormed n bytes
+    formed e =
+        let r = readable n bytes e in
+        let c = counts-range _ _ .0 (r .counts) in
+        record {
+          sender = senderOf bytes;
+          counts = countsOf n bytes;
+          stations = stations-range n .0 (r .stations);
+          sender-in = sender-range n _ .0 (r .sender);
+          size = length-countsOf n bytes;
+          counts-in = c .0;
+          own = c .1;
+          is-frame = sym (frame-countsOf n bytes o r);
+        }
+
+    read : WellFormed n bytes → reading n bytes .refusal ≡ 0
+    read w =
+        rw (w .is-frame)
+        (ap (λ (x : Reading). x .refusal)
+        (reading-of n _
+        (readable-frame n _ _ (stations-range n .1 (w .stations)) (w .size) (sender-range n _ .1 (w .sender-in)) (counts-range _ _ .1 (w .counts-in, w .own)))))

@@ -1,0 +1,54 @@
+-- What is claimed of frames; the theorems are in proofs/.
+use mathlib.Core.Path.{_≡_}
+use mathlib.Core.Logic.{_↔_}
+use mathlib.Core.List.{List, [], _∷_}
+use Prim.Native.Nat.{ℕ, _-_, _≤_, _<_}
+use lib.ListN.{length, getD, take, replicate}
+use Rattle.lists.specs.Entries.{over}
+use Rattle.frame.specs.Frame.{frame}
+use Rattle.frame.specs.Writing.{writing}
+use Rattle.frame.specs.Reading.{reading}
+
+-- a list of bytes
+abbrev pub Octets : List ℕ → Type 0
+Octets bytes = (k : ℕ) → getD bytes k 0 < 256
+
+-- well formed: the frame of a sender from 1 to n and of n counts, none above 4095 and the sender's own not zero
+pub record WellFormed (n : ℕ) (bytes : List ℕ) : Type 0 where
+  pub sender : ℕ
+  pub counts : List ℕ
+  pub stations : (2 ≤ n) × (n ≤ 8)
+  pub sender-in : (1 ≤ sender) × (sender ≤ n)
+  pub size : length counts ≡ n
+  pub counts-in : (k : ℕ) → getD counts k 0 ≤ 4095
+  pub own : 1 ≤ getD counts (sender - 1) 0
+  pub is-frame : bytes ≡ frame sender counts
+
+-- a frame is read exactly when it is well formed
+abbrev pub ReadsWellFormed : Type 0
+ReadsWellFormed = (n : ℕ) (bytes : List ℕ) → Octets bytes → (reading n bytes .refusal ≡ 0) ↔ WellFormed n bytes
+
+-- reading what was written restores the sender and the counts
+abbrev pub ReadRestores : Type 0
+ReadRestores =
+    (n sender : ℕ) (counts buffer : List ℕ)
+    → writing n sender counts buffer .refusal ≡ 0
+    → reading n (take (writing n sender counts buffer .written) (writing n sender counts buffer .buffer))
+    ≡ record { refusal = 0; sender = sender; counts = over counts (replicate 8 0) }
+
+-- writing what was read restores the bytes
+abbrev pub WriteRestores : Type 0
+WriteRestores =
+    (n : ℕ) (bytes buffer : List ℕ)
+    → Octets bytes
+    → reading n bytes .refusal ≡ 0
+    → length bytes ≤ length buffer
+    → writing n (reading n bytes .sender) (take n (reading n bytes .counts)) buffer
+    ≡ record { refusal = 0; written = length bytes; buffer = over bytes buffer }
+
+-- document 01's example: station 2 of two, vector 1,1
+abbrev pub Example : Type 0
+Example =
+    (writing 2 2 (1 ∷ 1 ∷ []) (9 ∷ 9 ∷ 9 ∷ 9 ∷ 9 ∷ 9 ∷ 9 ∷ [])
+    ≡ record { refusal = 0; written = 6; buffer = 0x10 ∷ 2 ∷ 1 ∷ 0 ∷ 1 ∷ 0 ∷ 9 ∷ [] })
+    × (reading 2 (0x10 ∷ 2 ∷ 1 ∷ 0 ∷ 1 ∷ 0 ∷ []) ≡ record { refusal = 0; sender = 2; counts = 1 ∷ 1 ∷ 0 ∷ 0 ∷ 0 ∷ 0 ∷ 0 ∷ 0 ∷ [] })

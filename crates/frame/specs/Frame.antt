@@ -1,0 +1,27 @@
+-- The LEADER frame: 10 hex, the sender, then n counts of two bytes, low byte first.
+use mathlib.Core.List.{List, [], _∷_}
+use mathlib.Core.Bool.{Bool, _&&_}
+use Prim.Native.Nat.{ℕ, _-_, _/_, _%_}
+use lib.ListN.{length, getD}
+use lib.Dec.{leb}
+use Rattle.lists.specs.Test.{allTo}
+
+-- the counts, each as its low byte and its high byte
+unfoldable pub body : List ℕ → List ℕ
+body [] = []
+body (c ∷ cs) = c % 256 ∷ c / 256 ∷ body cs
+
+unfoldable pub frame : ℕ → List ℕ → List ℕ
+frame sender counts = 0x10 ∷ sender ∷ body counts
+
+-- there are 2 to 8 stations
+unfoldable pub stationsIn : ℕ → Bool
+stationsIn n = leb 2 n && leb n 8
+
+-- a sender is one of the stations 1 to n
+unfoldable pub senderIn : ℕ → ℕ → Bool
+senderIn n sender = leb 1 sender && leb sender n
+
+-- no count is above 4095, and the sender's own is not zero
+unfoldable pub countsIn : ℕ → List ℕ → Bool
+countsIn sender counts = allTo (length counts) (λ k. leb (getD counts k 0) 4095) && leb 1 (getD counts (sender - 1) 0)

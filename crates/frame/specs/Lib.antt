@@ -1,0 +1,4 @@
+pub mod Claims
+pub mod Frame
+pub mod Reading
+pub mod Writing

@@ -1,0 +1,85 @@
+-- Laws of lists made entry by entry.
+use mathlib.Core.Path.{sym, _≡_, refl, ap, subst, _∙_}
+use mathlib.Core.List.{List, [], _∷_, _++_, append-nil}
+use Prim.Native.Nat.{ℕ, zero, suc, _+_, _<_, _≤_}
+use native.Mathlib.Numerals.{add-one}
+use native.Mathlib.Decide.{decLt}
+use native.Mathlib.Omega.{arith}
+use lib.ListN.{length, getD, take, drop, set, length-append, length-drop, drop-of-length-le, List·getD-append}
+use lib.Seq.{take-at, drop-cons, set-at, getD-at, append-snoc, getD-append-add, getD-drop}
+use Rattle.lists.specs.Entries.{upTo, firsts, over}
+
+module _ {A : Type 0} where
+  pub length-upTo : (n : ℕ) (f : ℕ → A) → length (upTo n f) ≡ n
+  unfolding upTo
+  length-upTo zero f = refl
+  length-upTo (suc n) f = length-append (upTo n f) (f n ∷ []) ∙ ap (λ (k : ℕ). k + 1) (length-upTo n f) ∙ add-one n
+
+  pub getD-upTo : (n : ℕ) (f : ℕ → A) (k : ℕ) (d : A) → k < n → getD (upTo n f) k d ≡ f k
+  unfolding upTo
+  getD-upTo zero f k d h = absurd (omega arith)
+  getD-upTo (suc n) f k d h = go (decLt k n) (getD-upTo n f k d)
+    where
+      go : Dec (k < n) → (k < n → getD (upTo n f) k d ≡ f k) → getD (upTo n f ++ (f n ∷ [])) k d ≡ f k
+      go (yes l) r = List·getD-append (upTo n f) (f n ∷ []) d k (omega (arith, length-upTo n f)) ∙ r l
+      go (no l) r =
+          let e : k ≡ n = omega arith in
+          rw e (getD-at (upTo n f) (f n) [] d n (length-upTo n f))
+
+  -- two such lists are the same where the entries are
+  pub upTo-same : (n : ℕ) (f g : ℕ → A) → ((k : ℕ) → k < n → f k ≡ g k) → upTo n f ≡ upTo n g
+  unfolding upTo
+  upTo-same zero f g h = refl
+  upTo-same (suc n) f g h = rw (upTo-same n f g (λ k l. h k (omega arith)), h n (omega arith))
+
+  -- where a loop that stores begins
+  pub firsts-zero : (f : ℕ → A) (old : List A) → old ≡ firsts 0 f old
+  unfolding upTo firsts
+  firsts-zero f old = refl
+
+  -- a turn of it, which stores f i at i
+  pub firsts-turn : (i : ℕ) (f : ℕ → A) (old r : List A) (v : A) → i < length old → r ≡ firsts i f old → v ≡ f i → set r i v ≡ firsts (i + 1) f old
+  unfolding upTo firsts
+  firsts-turn i f old r v h e g =
+      rw (e, g, add-one, drop-cons old i v, set-at (upTo i f) (getD old i v) (drop (suc i) old) (f i) i (length-upTo i f), append-snoc)
+
+  -- where it ends, if it stored everywhere
+  pub firsts-all : (n : ℕ) (f : ℕ → A) (old : List A) → length old ≡ n → firsts n f old ≡ upTo n f
+  unfolding firsts
+  firsts-all n f old h = rw (drop-of-length-le old {i = n} (omega arith)) (append-nil (upTo n f))
+
+  -- what it reads at or past the place of the turn is still old
+  pub firsts-beyond : (i k : ℕ) (f : ℕ → A) (old : List A) (d : A) → getD (firsts i f old) (i + k) d ≡ getD old (i + k) d
+  unfolding firsts
+  firsts-beyond i k f old d =
+      subst (λ (n : ℕ). getD (upTo i f ++ drop i old) (n + k) d ≡ getD old (i + k) d) (length-upTo i f) (getD-append-add (upTo i f) (drop i old) k d ∙ getD-drop i old k d)
+
+  pub length-firsts : (n : ℕ) (f : ℕ → A) (old : List A) → n ≤ length old → length (firsts n f old) ≡ length old
+  unfolding firsts
+  length-firsts n f old h = omega (arith, length-append (upTo n f) (drop n old), length-upTo n f, length-drop n old)
+
+  -- a loop that lays a list over the front of another begins with nothing
+  pub over-nil : (old : List A) → old ≡ over [] old
+  unfolding over
+  over-nil old = refl
+
+  -- and stores one entry more in a turn
+  pub over-snoc : (l old r : List A) (i : ℕ) (v : A) → i ≡ length l → i < length old → r ≡ over l old → set r i v ≡ over (l ++ (v ∷ [])) old
+  unfolding over
+  over-snoc l old r i v n h e =
+      let h′ : length l < length old = omega arith in
+      rw (e, n, drop-cons old (length l) v, set-at l (getD old (length l) v) (drop (suc (length l)) old) v (length l) refl, length-append, append-snoc, add-one)
+
+  pub length-over : (l old : List A) → length l ≤ length old → length (over l old) ≡ length old
+  unfolding over
+  length-over l old h = omega (arith, length-append l (drop (length l) old), length-drop (length l) old)
+
+  -- the front of what it leaves is the list
+  pub take-over : (n : ℕ) (l old : List A) → length l ≡ n → take n (over l old) ≡ l
+  unfolding over
+  take-over n l old e = take-at l _ n e
+
+  -- a turn that lays f i over, after f 0, .., f (i - 1)
+  pub over-turn : (i : ℕ) (f : ℕ → A) (old r : List A) (v : A) → i < length old → r ≡ over (upTo i f) old → v ≡ f i → set r i v ≡ over (upTo (i + 1) f) old
+  unfolding upTo
+  over-turn i f old r v h e g = rw (add-one i, g) (over-snoc (upTo i f) old r i (f i) (sym (length-upTo i f)) h e)

@@ -1,0 +1,48 @@
+-- Laws of a test of every number.
+use mathlib.Core.Path.{_≡_, refl}
+use mathlib.Core.Bool.{Bool, true, false, _&&_, and-eq-true-iff}
+use Prim.Native.Nat.{ℕ, zero, suc, _+_, _<_}
+use native.Mathlib.Numerals.{add-one}
+use native.Mathlib.Decide.{decLt}
+use native.Mathlib.Omega.{arith}
+use Rattle.lists.specs.Test.{allTo}
+
+-- where a loop that tests begins
+pub all-none : (t : ℕ → Bool) → allTo 0 t ≡ true
+unfolding allTo
+all-none t = refl
+
+-- a turn of it at which the test holds
+pub all-turn : (n : ℕ) (t : ℕ → Bool) → allTo n t ≡ true → t n ≡ true → allTo (n + 1) t ≡ true
+unfolding allTo
+all-turn n t e h = rw (add-one, e, h)
+
+-- the early answer, where the test does not hold
+pub all-not : (n k : ℕ) (t : ℕ → Bool) → k < n → t k ≡ false → allTo n t ≡ false
+unfolding allTo
+all-not zero k t l e = absurd (omega arith)
+all-not (suc n) k t l e = last (decLt k n) (all-not n k t)
+  where
+    no-and : (b : Bool) → (b && false) ≡ false
+    no-and true = refl
+    no-and false = refl
+
+    last : Dec (k < n) → (k < n → t k ≡ false → allTo n t ≡ false) → (allTo n t && t n) ≡ false
+    last (yes q) r = rw (r q e)
+    last (no q) r = let same : k ≡ n = omega arith in rw (← same, e) (no-and (allTo k t))
+
+-- what holds of all holds of each
+pub all-at : (n k : ℕ) (t : ℕ → Bool) → allTo n t ≡ true → k < n → t k ≡ true
+unfolding allTo
+all-at zero k t e h = absurd (omega arith)
+all-at (suc n) k t e h = last (decLt k n) (all-at n k t) (and-eq-true-iff (allTo n t) (t n) .0 e)
+  where
+    last : Dec (k < n) → (allTo n t ≡ true → k < n → t k ≡ true) → (allTo n t ≡ true) × (t n ≡ true) → t k ≡ true
+    last (yes q) r b = r (b .0) q
+    last (no q) r b = let same : k ≡ n = omega arith in rw same (b .1)
+
+-- and what holds of each holds of all
+pub all-of : (n : ℕ) (t : ℕ → Bool) → ((k : ℕ) → k < n → t k ≡ true) → allTo n t ≡ true
+unfolding allTo
+all-of zero t h = refl
+all-of (suc n) t h = rw (all-of n t (λ k l. h k (omega arith)), h n (omega arith))

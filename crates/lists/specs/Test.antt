@@ -1,0 +1,8 @@
+-- A test of every number: what a loop with an early answer finds.
+use mathlib.Core.Bool.{Bool, true, _&&_}
+use Prim.Native.Nat.{ℕ, zero, suc}
+
+-- the test holds of every number below n
+unfoldable pub allTo : ℕ → (ℕ → Bool) → Bool
+allTo zero t = true
+allTo (suc n) t = allTo n t && t n

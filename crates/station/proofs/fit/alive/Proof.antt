@@ -1,0 +1,11 @@
+use borrow.Author.Needs.{needs}
+use Rattle.station.specs.Fit.{alive}
+use Rattle.station.proofs.fit.alive.Statement.{statement}
+use Rattle.station.proofs.fit.alive.Tie as tie
+
+returns : tie.Need-returns
+unfolding alive
+returns c = cc
+
+pub alive-spec : {M : Type 1} → statement M
+alive-spec = tie.close (tie.spec (λ c κs. search needs) (λ c κs. search needs) returns)

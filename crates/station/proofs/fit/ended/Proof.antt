@@ -1,0 +1,12 @@
+use borrow.Author.Needs.{needs}
+use Rattle.station.specs.Fit.{ended}
+use Rattle.station.proofs.fit.ended.Statement.{statement}
+use Rattle.station.proofs.fit.ended.Tie as tie
+
+returns : tie.Need-returns
+unfolding ended
+returns c = cc
+
+pub ended-spec : {M : Type 1} → statement M
+ended-spec =
+    tie.close (tie.spec (λ c κs. search needs) (λ c κs. search needs) (λ c κs. search needs) returns)

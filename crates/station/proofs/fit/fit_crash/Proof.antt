@@ -1,0 +1,11 @@
+use borrow.Author.Needs.{needs}
+use Rattle.station.specs.Fit.{fitCrash}
+use Rattle.station.proofs.fit.fit_crash.Statement.{statement}
+use Rattle.station.proofs.fit.fit_crash.Tie as tie
+
+returns : tie.Need-returns
+unfolding fitCrash
+returns c = cc
+
+pub fit-crash-spec : {M : Type 1} → statement M
+fit-crash-spec = tie.close (tie.spec (λ c κs. search needs) returns)

@@ -1,0 +1,11 @@
+use borrow.Author.Needs.{needs}
+use Rattle.station.specs.Fit.{fitExpire}
+use Rattle.station.proofs.fit.fit_expire.Statement.{statement}
+use Rattle.station.proofs.fit.fit_expire.Tie as tie
+
+returns : tie.Need-returns
+unfolding fitExpire
+returns c = cc
+
+pub fit-expire-spec : {M : Type 1} → statement M
+fit-expire-spec = tie.close (tie.spec (λ c κs. search needs) (λ c κs. search needs) (λ c κs. search needs) returns)

@@ -1,0 +1,23 @@
+use borrow.Author.Needs.{needs}
+use Rattle.station.specs.Fit.{fitHear}
+use Rattle.station.proofs.fit.fit_hear.Statement.{statement}
+use Rattle.station.proofs.fit.fit_hear.Tie as tie
+
+returns : tie.Need-returns
+unfolding fitHear
+returns c = cc
+
+pub fit-hear-spec : {M : Type 1} → statement M
+fit-hear-spec =
+    tie.close
+    (tie.spec
+    (λ c κs. search needs)
+    (λ c κs. search needs)
+    (λ c κs. search needs)
+    (λ c κs. search needs)
+    (λ c κs. search needs)
+    (λ c κs. search needs)
+    (λ c κs. search needs)
+    (λ c κs. search needs)
+    (λ c κs. search needs)
+    returns)

@@ -1,0 +1,11 @@
+use borrow.Author.Needs.{needs}
+use Rattle.station.specs.Fit.{fitMessage}
+use Rattle.station.proofs.fit.fit_message.Statement.{statement}
+use Rattle.station.proofs.fit.fit_message.Tie as tie
+
+returns : tie.Need-returns
+unfolding fitMessage
+returns c = cc
+
+pub fit-message-spec : {M : Type 1} → statement M
+fit-message-spec = tie.close (tie.spec (λ c κs. search needs) returns)

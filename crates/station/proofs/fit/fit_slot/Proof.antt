@@ -1,0 +1,20 @@
+use borrow.Author.Needs.{needs}
+use Rattle.station.specs.Fit.{fitSlot}
+use Rattle.station.proofs.fit.fit_slot.Statement.{statement}
+use Rattle.station.proofs.fit.fit_slot.Tie as tie
+
+returns : tie.Need-returns
+unfolding fitSlot
+returns c = cc
+
+pub fit-slot-spec : {M : Type 1} → statement M
+fit-slot-spec =
+    tie.close
+    (tie.spec
+    (λ c κs. search needs)
+    (λ c κs. search needs)
+    (λ c κs. search needs)
+    (λ c κs. search needs)
+    (λ c κs. search needs)
+    (λ c κs. search needs)
+    returns)

@@ -1,0 +1,11 @@
+use borrow.Author.Needs.{needs}
+use Rattle.station.specs.Fit.{fitStart}
+use Rattle.station.proofs.fit.fit_start.Statement.{statement}
+use Rattle.station.proofs.fit.fit_start.Tie as tie
+
+returns : tie.Need-returns
+unfolding fitStart
+returns c = cc
+
+pub fit-start-spec : {M : Type 1} → statement M
+fit-start-spec = tie.close (tie.spec (λ c κs. search needs) returns)

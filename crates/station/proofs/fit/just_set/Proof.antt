@@ -1,0 +1,20 @@
+use borrow.Author.Needs.{needs}
+use Rattle.station.specs.Fit.{justSet}
+use Rattle.station.proofs.fit.just_set.Statement.{statement}
+use Rattle.station.proofs.fit.just_set.Tie as tie
+
+returns : tie.Need-returns
+unfolding justSet
+returns c = cc
+
+pub just-set-spec : {M : Type 1} → statement M
+just-set-spec =
+    tie.close
+    (tie.spec
+    (λ c κs. search needs)
+    (λ c κs. search needs)
+    (λ c κs. search needs)
+    (λ c. search needs)
+    (λ c κs. search needs)
+    (λ c κs. search needs)
+    returns)

@@ -1,0 +1,11 @@
+use mathlib.Core.Path.{refl}
+use Rattle.station.specs.Fit.{keptIn}
+use Rattle.station.proofs.fit.kept_in.Statement.{statement}
+use Rattle.station.proofs.fit.kept_in.Tie as tie
+
+returns : tie.Need-returns
+unfolding keptIn
+returns c = refl
+
+pub kept-in-spec : {M : Type 1} → statement M
+kept-in-spec = tie.close (tie.spec returns)

@@ -1,0 +1,19 @@
+use borrow.Author.Needs.{needs}
+use Rattle.station.specs.Fit.{unended}
+use Rattle.station.proofs.fit.unended.Statement.{statement}
+use Rattle.station.proofs.fit.unended.Tie as tie
+
+returns : tie.Need-returns
+unfolding unended
+returns c = cc
+
+pub unended-spec : {M : Type 1} → statement M
+unended-spec =
+    tie.close
+    (tie.spec
+    (λ c κs. search needs)
+    (λ c κs. search needs)
+    (λ c κs. search needs)
+    (λ c κs. search needs)
+    (λ c κs. search needs)
+    returns)

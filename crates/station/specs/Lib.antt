@@ -1,0 +1,4 @@
+pub mod Fit
+pub mod Operations
+pub mod Order
+pub mod Rules
