@@ -1,7 +1,9 @@
 pub mod Bools
 pub mod Count
 pub mod Entries
+pub mod Every
 pub mod Filter
 pub mod First
 pub mod Fold
+pub mod Largest
 pub mod Test

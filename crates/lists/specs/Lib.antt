@@ -1,6 +1,8 @@
 pub mod Count
 pub mod Entries
+pub mod Every
 pub mod Filter
 pub mod First
 pub mod Fold
+pub mod Largest
 pub mod Test

@@ -1,8 +1,11 @@
+pub mod Between
 pub mod Candidates
 pub mod Elimination
+pub mod Fields
 pub mod Handed
 pub mod Keeps
 pub mod Outcomes
 pub mod Safe
 pub mod Tests
+pub mod Unchanged
 pub mod Vectors

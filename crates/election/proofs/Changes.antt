@@ -1,0 +1,122 @@
+-- A start, a crash, another delay and the loss of messages leave a sound system.
+use mathlib.Core.Path.{_≡_, sym, ap, subst, _∙_}
+use mathlib.Core.Logic.{_≢_}
+use mathlib.Core.List.{List, []}
+use mathlib.Core.Bool.{true, false, true≢false}
+use Prim.Native.Nat.{ℕ, _+_, _-_, _<_, _≤_}
+use native.Mathlib.Decide.{decLt, ℕ-discrete}
+use native.Mathlib.Omega.{arith}
+use lib.ListN.{length, getD, set}
+use lib.Seq.{set-out, getD-set-same, getD-set-other}
+use Rattle.station.specs.Fit.{fit}
+use Rattle.station.specs.Rules.{started, crashed}
+use Rattle.station.specs.declared.Station.{Station}
+use Rattle.station.proofs.Fields.{started-slot, crashed-up, fit-starts, fit-crashes}
+use Rattle.station.proofs.Keeps.{start-keeps, crash-keeps}
+use Rattle.election.specs.Commands.{withStation, withDelay, withoutMessages}
+use Rattle.election.specs.System.{noStation, noLink, station, place, from, to, isLink, holding}
+use Rattle.election.specs.declared.Link.{Link}
+use Rattle.election.specs.declared.System.{System}
+use Rattle.election.proofs.InitialSound.{empty-linked}
+use Rattle.election.proofs.Mail.{Posted, Linked}
+use Rattle.election.proofs.Places.{In, from-place, to-place, widen, is-link}
+use Rattle.election.proofs.Soundness.{Sound}
+
+-- what holds of the entry that was there and of the one that is stored holds of the one that is there then
+pub set-keeps : {A : Type 0} (P : A → Type 0) (l : List A) (i j : ℕ) (v d : A) → (j ≡ i → P v) → P (getD l j d) → P (getD (set l i v) j d)
+set-keeps P l i j v d f p = go (ℕ-discrete j i) (decLt i (length l))
+  where
+    go : Dec (j ≡ i) → Dec (i < length l) → P (getD (set l i v) j d)
+    go (no ne) b = rw (getD-set-other l i j v d ne) p
+    go (yes e) (yes h) = rw (e, getD-set-same l i v d h) (f e)
+    go (yes e) (no h) = rw (set-out l i v (omega arith)) p
+
+-- another sender whose send chance is late enough
+resent : (n period tick : ℕ) (x y : Station) (l : Link) → (y .up ≡ true → tick + period ≤ y .slot) → Linked n period tick x l → Linked n period tick y l
+resent n period tick x y l h f =
+    record {
+      few = f .few;
+      held = λ k i.
+          (let p : Posted n period tick x (getD (l .messages) k _) = f .held k i in
+          record { sent-by = p .sent-by; due-after = p .due-after; due-by = p .due-by; counts = p .counts; before = λ u. omega (arith, h u, p .sent-by) });
+      rest = f .rest;
+      apart = f .apart;
+    }
+
+-- another station p
+module _ (s : System) (f : Sound s) (p : ℕ) (h : In (s .n) p) where
+  pub station-sound : (x : Station) → fit p (s .n) (s .period) (s .tick) x ≡ true → (x .up ≡ true → s .tick + s .period ≤ x .slot) → Sound (withStation p x s)
+  station-sound x fits slot =
+      record {
+        n-low = f .n-low;
+        n-high = f .n-high;
+        period-low = f .period-low;
+        period-high = f .period-high;
+        tick-high = f .tick-high;
+        fits = λ q hq.
+            set-keeps (λ y. fit q (s .n) (s .period) (s .tick) y ≡ true) (s .stations) (p - 1) (q - 1) x noStation
+            (λ e. subst (λ k. fit k (s .n) (s .period) (s .tick) x ≡ true) (omega (arith, h .low, hq .low)) fits) (f .fits q hq);
+        few = f .few;
+        no-station = λ k l i. rw (getD-set-other (s .stations) (p - 1) k x noStation (λ e. omega (arith, h .low, h .high))) (f .no-station k l i);
+        short = f .short;
+        linked = λ a b ha hb ne.
+            (let l : Link = getD (s .links) (place a b) noLink in
+            set-keeps (λ y. Linked (s .n) (s .period) (s .tick) y l) (s .stations) (p - 1) (a - 1) x noStation
+            (λ e. resent (s .n) (s .period) (s .tick) (station s a) x l slot (f .linked a b ha hb ne)) (f .linked a b ha hb ne));
+        no-link = f .no-link;
+      }
+
+  pub start-sound : station s p .incarnation < 4095 → Sound (withStation p (started p (s .n) (s .period) (s .tick) (station s p)) s)
+  start-sound few =
+      station-sound (started p (s .n) (s .period) (s .tick) (station s p))
+      (start-keeps p (s .n) (s .period) (s .tick) (station s p) (fit-starts p (s .n) (s .period) (s .tick) (station s p) (f .tick-high) (f .fits p h)) few)
+      (λ u. omega (arith, started-slot p (s .n) (s .period) (s .tick) (station s p)))
+
+  pub crash-sound : station s p .up ≡ true → Sound (withStation p (crashed (station s p)) s)
+  crash-sound u =
+      station-sound (crashed (station s p))
+      (crash-keeps p (s .n) (s .period) (s .tick) (station s p) (fit-crashes p (s .n) (s .period) (s .tick) (station s p) (f .tick-high) (f .fits p h) u))
+      (λ v. absurd (true≢false (sym v ∙ crashed-up (station s p))))
+
+-- what stands at the link from p to q
+module _ (s : System) (f : Sound s) (p q : ℕ) (hp : In (s .n) p) (hq : In (s .n) q) (ne : p ≢ q) where
+  not-there : (k : ℕ) → isLink (s .n) (from k) (to k) ≡ false → k ≢ place p q
+  not-there k e i =
+      let wp : In 8 p = widen (s .n) p (f .n-high) hp in
+      let wq : In 8 q = widen (s .n) q (f .n-high) hq in
+      let there : isLink (s .n) (from (place p q)) (to (place p q)) ≡ true = rw (from-place p q wp wq, to-place p q wp wq) (is-link (s .n) p q hp hq ne) in
+      true≢false (sym there ∙ sym (ap (λ x. isLink (s .n) (from x) (to x)) i) ∙ e)
+
+  pub delay-sound : (d : ℕ) → d ≤ 64 → Sound (withDelay p q d s)
+  delay-sound d h =
+      record {
+        n-low = f .n-low;
+        n-high = f .n-high;
+        period-low = f .period-low;
+        period-high = f .period-high;
+        tick-high = f .tick-high;
+        fits = f .fits;
+        few = f .few;
+        no-station = f .no-station;
+        short = λ a b ha hb other. set-keeps (λ y. y ≤ 64) (s .delays) (place p q) (place a b) d 0 (λ e. h) (f .short a b ha hb other);
+        linked = f .linked;
+        no-link = λ k l e. rw (getD-set-other (s .delays) (place p q) k d 0 (not-there k e)) (f .no-link k l e);
+      }
+
+  pub lose-sound : Sound (withoutMessages p q s)
+  lose-sound =
+      record {
+        n-low = f .n-low;
+        n-high = f .n-high;
+        period-low = f .period-low;
+        period-high = f .period-high;
+        tick-high = f .tick-high;
+        fits = f .fits;
+        few = f .few;
+        no-station = f .no-station;
+        short = f .short;
+        linked = λ a b ha hb other.
+            set-keeps (λ y. Linked (s .n) (s .period) (s .tick) (station s a) y) (s .links) (place p q) (place a b) (holding []) noLink
+            (λ e. empty-linked (s .n) (s .period) (s .tick) (station s a)) (f .linked a b ha hb other);
+        no-link = λ k l e. rw (getD-set-other (s .links) (place p q) k (holding []) noLink (not-there k e)) (f .no-link k l e);
+      }

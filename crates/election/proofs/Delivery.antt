@@ -1,0 +1,153 @@
+-- (a) of a tick: every message that is due can be heard when its turn comes.
+use mathlib.Core.Path.{_≡_, refl, ap, subst, _∙_}
+use mathlib.Core.Logic.{_≢_}
+use mathlib.Core.Logic._⊎_.{inl, inr}
+use mathlib.Core.List.{List, [], _∷_}
+use mathlib.Core.Bool.{Bool, true, false, cond}
+use Prim.Native.Nat.{ℕ, zero, suc, _+_, _-_, _<_, _≤_, min}
+use native.Mathlib.Decide.{ℕ-discrete}
+use native.Mathlib.Omega.{arith}
+use lib.Dec.{eqb}
+use borrow.Author.Tests.{eqb-true}
+use Rattle.lists.specs.Fold.{each}
+use Rattle.lists.proofs.Fold.{each-keeps}
+use Rattle.station.specs.Fit.{fit, flight, fitMessage, fitHear}
+use Rattle.station.specs.Rules.{heard}
+use Rattle.station.specs.declared.Station.{Station}
+use Rattle.station.proofs.Fields.{heard-slot}
+use Rattle.station.proofs.Handed.{hearing-of, of-message}
+use Rattle.station.proofs.Keeps.{During, Next, fit-during, fit-hears, heard-during, hear-keeps}
+use Rattle.station.proofs.Tests.{counts-of}
+use Rattle.election.specs.Tick.{heardLink, heardAll}
+use Rattle.election.specs.declared.Message.{Message}
+use Rattle.election.proofs.Mail.{Posted}
+use Rattle.election.proofs.Places.{In}
+use Rattle.election.proofs.Spaced.{Spaced, none, more}
+
+-- station me in the tick now, when the messages of q and of all below are done: every sender above can be heard
+pub record Ready (me n period now q : ℕ) (x : Station) : Type 0 where
+  pub during : During me n period now x
+  pub above : (q′ : ℕ) (v : List ℕ) → q < q′ → fitMessage me n q′ v ≡ true → fitHear me n period now q′ v x ≡ true
+
+-- and when a message of q is done, but perhaps not the last: q can be heard again, where two of its messages can be due in one tick
+pub record Again (me n period now q : ℕ) (x : Station) : Type 0 where
+  pub during : During me n period now x
+  pub next : (q′ : ℕ) (v : List ℕ) → Next period now q q′ → fitMessage me n q′ v ≡ true → fitHear me n period now q′ v x ≡ true
+
+module _ (me n period now q : ℕ) where
+  pub heard-again : (v : List ℕ) (x : Station) → fitHear me n period now q v x ≡ true → Again me n period now q (heard me q v now x)
+  heard-again v x e =
+      record {
+        during = heard-during me n period now q v x (hearing-of me n period now q v x e);
+        next = λ q′ v′ after m. hear-keeps me n period now q q′ v v′ x e after m;
+      }
+
+  pub again-ready : (x : Station) → Again me n period now q x → Ready me n period now q x
+  again-ready x a = record { during = a .during; above = λ q′ v h m. a .next q′ v (inl h) m }
+
+-- senders that are done stay done
+pub ready-rises : (me n period now k q : ℕ) (x : Station) → k ≤ q → Ready me n period now k x → Ready me n period now q x
+ready-rises me n period now k q x h a = record { during = a .during; above = λ q′ v l m. a .above q′ v (omega arith) m }
+
+-- no message changes nothing
+pub heard-none : (me q now : ℕ) (ms : List Message) (x : Station) → ms ≡ [] → heardLink me q now ms x ≡ x
+unfolding heardLink
+heard-none me q now ms x e = rw e
+
+-- the messages of one sender
+module _ (me n period tick q : ℕ) (sender : Station) (hq : In n q) (other : q ≢ me) where
+  posted-fits : (m : Message) → Posted n period tick sender m → fitMessage me n q (m .counts) ≡ true
+  posted-fits m p =
+      of-message me n q (m .counts) (record { low = hq .low; high = hq .high; other = other; counts = counts-of n (m .counts) (p .counts) })
+
+  -- the messages after one that was heard
+  pub goes-on : (low : ℕ) (ms : List Message) (x : Station)
+      → tick + 1 + period ≤ low + 64 → period ≤ low
+      → Spaced (Posted n period tick sender) period low ms
+      → Again me n period (tick + 1) q x
+      → Again me n period (tick + 1) q (heardLink me q (tick + 1) ms x)
+  unfolding heardLink
+  goes-on low ms x h g none a = a
+  goes-on low ms x h g (more {m = m} {ms = rest} l p r) a =
+      at (eqb (m .due) (tick + 1)) (λ y b. goes-on (m .sent + period) rest y (omega arith) (omega arith) r b)
+    where
+      gap : period ≤ min (tick + 1 - 1) flight
+      gap = omega (arith, p .sent-by)
+
+      at : (b : Bool)
+          → ((y : Station) → Again me n period (tick + 1) q y → Again me n period (tick + 1) q (heardLink me q (tick + 1) rest y))
+          → Again me n period (tick + 1) q (heardLink me q (tick + 1) rest (cond b (heard me q (m .counts) (tick + 1) x) x))
+      at true go = go _ (heard-again me n period (tick + 1) q (m .counts) x (a .next q (m .counts) (inr (refl, gap)) (posted-fits m p)))
+      at false go = go x a
+
+  -- all its messages, where nothing of its was heard yet
+  pub hears-link : (k low : ℕ) (ms : List Message) (x : Station) → k < q
+      → Spaced (Posted n period tick sender) period low ms
+      → Ready me n period (tick + 1) k x
+      → Ready me n period (tick + 1) q (heardLink me q (tick + 1) ms x)
+  unfolding heardLink
+  hears-link k low ms x h none a = ready-rises me n period (tick + 1) k q x (omega arith) a
+  hears-link k low ms x h (more {m = m} {ms = rest} l p r) a =
+      at (eqb (m .due) (tick + 1)) refl (λ y b. hears-link k (m .sent + period) rest y h r b)
+    where
+      at : (b : Bool) → eqb (m .due) (tick + 1) ≡ b
+          → ((y : Station) → Ready me n period (tick + 1) k y → Ready me n period (tick + 1) q (heardLink me q (tick + 1) rest y))
+          → Ready me n period (tick + 1) q (heardLink me q (tick + 1) rest (cond b (heard me q (m .counts) (tick + 1) x) x))
+      at true e go =
+          let due : m .due ≡ tick + 1 = eqb-true (m .due) (tick + 1) e in
+          again-ready me n period (tick + 1) q _
+          (goes-on (m .sent + period) rest _ (omega (arith, p .due-by)) (omega arith) r
+          (heard-again me n period (tick + 1) q (m .counts) x (a .above q (m .counts) h (posted-fits m p))))
+      at false e go = go x a
+
+-- all senders, ascending
+module _ (me n period tick : ℕ) (sender : ℕ → Station) (inbox : ℕ → List Message)
+    (mail : (q : ℕ) → In n q → q ≢ me → Spaced (Posted n period tick (sender q)) period 0 (inbox q))
+    (none-own : inbox me ≡ []) where
+  pub hears-below : (j : ℕ) (x : Station) → j ≤ n → Ready me n period (tick + 1) 0 x
+      → Ready me n period (tick + 1) j (each j (λ k. heardLink me (k + 1) (tick + 1) (inbox (k + 1))) x)
+  unfolding each
+  hears-below zero x h a = a
+  hears-below (suc j) x h a = at (ℕ-discrete (j + 1) me) (hears-below j x (omega arith) a)
+    where
+      y : Station
+      y = each j (λ k. heardLink me (k + 1) (tick + 1) (inbox (k + 1))) x
+
+      at : Dec (j + 1 ≡ me) → Ready me n period (tick + 1) j y → Ready me n period (tick + 1) (suc j) (heardLink me (j + 1) (tick + 1) (inbox (j + 1)) y)
+      at (yes e) r =
+          rw (heard-none me (j + 1) (tick + 1) (inbox (j + 1)) y (ap inbox e ∙ none-own)) (ready-rises me n period (tick + 1) j (suc j) y (omega arith) r)
+      at (no e) r =
+          let i : In n (j + 1) = record { low = omega arith; high = omega arith } in
+          ready-rises me n period (tick + 1) (j + 1) (suc j) _ (omega arith)
+          (hears-link me n period tick (j + 1) (sender (j + 1)) i e j 0 (inbox (j + 1)) y (omega arith) (mail (j + 1) i e) r)
+
+  -- so the tick goes on
+  pub hears-all : (x : Station) → Ready me n period (tick + 1) 0 x → During me n period (tick + 1) (heardAll n me (tick + 1) inbox x)
+  unfolding heardAll
+  hears-all x a = hears-below n x (omega arith) a .during
+
+-- a station at the end of the tick before
+pub fit-ready : (me n period tick : ℕ) (x : Station) → tick < 1000000 → fit me n period tick x ≡ true → x .up ≡ true → Ready me n period (tick + 1) 0 x
+fit-ready me n period tick x h e u =
+    let f : fit me n period (tick + 1 - 1) x ≡ true = subst (λ t. fit me n period t x ≡ true) (omega arith) e in
+    record {
+      during = fit-during me n period (tick + 1) x (omega arith) (omega arith) f u;
+      above = λ q v l m. fit-hears me n period (tick + 1) x q v (omega arith) (omega arith) f u m;
+    }
+
+-- hearing leaves the send chance
+pub heardLink-slot : (me q now : ℕ) (ms : List Message) (x : Station) → heardLink me q now ms x .slot ≡ x .slot
+unfolding heardLink
+heardLink-slot me q now [] x = refl
+heardLink-slot me q now (m ∷ ms) x =
+    heardLink-slot me q now ms (cond (eqb (m .due) now) (heard me q (m .counts) now x) x) ∙ at (eqb (m .due) now)
+  where
+    at : (b : Bool) → cond b (heard me q (m .counts) now x) x .slot ≡ x .slot
+    at true = heard-slot me q now (m .counts) x
+    at false = refl
+
+pub heardAll-slot : (n me now : ℕ) (inbox : ℕ → List Message) (x : Station) → heardAll n me now inbox x .slot ≡ x .slot
+unfolding heardAll
+heardAll-slot n me now inbox x =
+    each-keeps (λ (y : Station). y .slot ≡ x .slot) n (λ k. heardLink me (k + 1) now (inbox (k + 1))) x
+    (λ k y h e. heardLink-slot me (k + 1) now (inbox (k + 1)) y ∙ e) refl

@@ -1,0 +1,101 @@
+-- The fresh system is sound, and so is what set up leaves.
+use mathlib.Core.Path.{_≡_, refl, _∙_}
+use mathlib.Core.Logic.{_≢_}
+use mathlib.Core.List.{[]}
+use mathlib.Core.Bool.{true, false, cond}
+use Prim.Native.Nat.{ℕ, _+_, _-_, _<_, _≤_}
+use native.Mathlib.Omega.{arith}
+use lib.ListN.{getD, getD-replicate}
+use lib.Dec.{ltb}
+use borrow.Author.Tests.{lt-ltb, le-ltb}
+use Rattle.lists.proofs.Entries.{getD-upTo}
+use Rattle.lists.proofs.Test.{all-of}
+use Rattle.station.specs.Fit.{fit}
+use Rattle.station.specs.declared.Station.{Station}
+use Rattle.station.proofs.Fields.{down-cleared, down-fits}
+use Rattle.station.proofs.Vectors.{zeros-at}
+use Rattle.election.specs.Claims.{FreshSound}
+use Rattle.election.specs.Sound.{emptyStation, emptyMessage, messageAt, sound}
+use Rattle.election.specs.System.{places, noStation, noLink, station, place, from, to, delay, isLink, unstarted, holding, fresh, initial}
+use Rattle.election.proofs.Mail.{Linked, holding-used, holding-rest, holding-linked, unused-empty}
+use Rattle.election.proofs.Places.{In, place-in, from-place, to-place, widen, is-link}
+use Rattle.election.proofs.Soundness.{Sound, emptySeat, emptyPlace}
+use Rattle.election.proofs.Spaced.{none}
+
+pub fresh-sound : FreshSound
+unfolding sound fresh
+fresh-sound = refl
+
+-- a link without messages
+pub empty-linked : (n period tick : ℕ) (sender : Station) → Linked n period tick sender (holding [])
+empty-linked n period tick sender = holding-linked n period tick sender [] (omega arith) none
+
+pub empty-place : emptyPlace 0 (holding []) ≡ true
+unfolding emptyPlace
+empty-place =
+    rw (holding-used [] (omega arith))
+    (all-of places (λ i. emptyMessage (messageAt (holding []) i)) (λ k h. rw (holding-rest [] (omega arith) k h (omega arith)) unused-empty))
+
+empty-seat : emptySeat (unstarted 0) 0 ≡ true
+unfolding emptySeat emptyStation
+empty-seat = rw (down-cleared (unstarted 0))
+
+pub initial-ready : (n period : ℕ) → initial n period .ready ≡ true
+unfolding initial
+initial-ready n period = refl
+
+module _ (n period : ℕ) (n-low : 2 ≤ n) (n-high : n ≤ 8) (p-low : 16 ≤ period) (p-high : period ≤ 255) where
+  initial-station : (p : ℕ) → In n p → station (initial n period) p ≡ unstarted p
+  unfolding initial
+  initial-station p h =
+      let e : p - 1 + 1 ≡ p = omega (arith, h .low) in
+      getD-upTo 8 (λ k. unstarted (cond (ltb k n) (k + 1) 0)) (p - 1) noStation (omega (arith, h .low, h .high))
+      ∙ rw (lt-ltb (p - 1) n (omega (arith, h .low, h .high)), e)
+
+  initial-fits : (p : ℕ) → In n p → fit p n period 0 (station (initial n period) p) ≡ true
+  initial-fits p h =
+      rw (initial-station p h)
+      (down-fits p n period 0 (unstarted p)
+      (record { n-low = n-low; n-high = n-high; period-low = p-low; period-high = p-high; me-low = h .low; me-high = h .high })
+      (record { few = omega arith; low = h .low; high = h .high }))
+
+  initial-seat : (k : ℕ) → n ≤ k → k < 8 → emptySeat (getD (initial n period .stations) k noStation) (getD (initial n period .sent) k 0) ≡ true
+  unfolding initial
+  initial-seat k l h =
+      rw (getD-upTo 8 (λ k. unstarted (cond (ltb k n) (k + 1) 0)) k noStation h, le-ltb k n l, zeros-at k) empty-seat
+
+  initial-short : (p q : ℕ) → In n p → In n q → p ≢ q → delay (initial n period) p q ≤ 64
+  unfolding initial
+  initial-short p q hp hq ne =
+      let wp : In 8 p = widen n p n-high hp in
+      let wq : In 8 q = widen n q n-high hq in
+      rw (getD-upTo {A = ℕ} 64 (λ k. cond (isLink n (from k) (to k)) 1 0) (place p q) 0 (place-in p q wp wq), from-place p q wp wq, to-place p q wp wq, is-link n p q hp hq ne)
+      (omega arith)
+
+  initial-linked : (p q : ℕ) → In n p → In n q → p ≢ q → Linked n period 0 (station (initial n period) p) (getD (initial n period .links) (place p q) noLink)
+  unfolding initial
+  initial-linked p q hp hq ne =
+      rw (getD-replicate 64 (place p q) (holding []) noLink (place-in p q (widen n p n-high hp) (widen n q n-high hq)))
+      (empty-linked n period 0 (station (initial n period) p))
+
+  initial-place : (k : ℕ) → k < 64 → isLink n (from k) (to k) ≡ false → emptyPlace (getD (initial n period .delays) k 0) (getD (initial n period .links) k noLink) ≡ true
+  unfolding initial
+  initial-place k h e =
+      rw (getD-upTo {A = ℕ} 64 (λ k. cond (isLink n (from k) (to k)) 1 0) k 0 h, e, getD-replicate 64 k (holding []) noLink h) empty-place
+
+  pub initial-sound : Sound (initial n period)
+  unfolding initial
+  initial-sound =
+      record {
+        n-low = n-low;
+        n-high = n-high;
+        period-low = p-low;
+        period-high = p-high;
+        tick-high = omega arith;
+        fits = initial-fits;
+        few = λ p h. (omega (arith, zeros-at (p - 1)));
+        no-station = initial-seat;
+        short = initial-short;
+        linked = initial-linked;
+        no-link = initial-place;
+      }

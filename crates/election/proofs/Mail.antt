@@ -1,0 +1,153 @@
+-- What the tests of a link say, as facts in arithmetic, both ways; and its messages as a list.
+use mathlib.Core.Path.{_≡_, refl, sym, ap, _∙_}
+use mathlib.Core.List.{List, _++_}
+use mathlib.Core.Bool.{Bool, true, false, cond, _&&_}
+use Prim.Native.Nat.{ℕ, suc, _+_, _-_, _<_, _≤_}
+use native.Mathlib.Numerals.{add-one}
+use native.Mathlib.Decide.{decLt}
+use native.Mathlib.Omega.{arith}
+use lib.ListN.{length, getD, drop, replicate, List·getD-append, List·getD-eq-default, getD-replicate}
+use lib.Seq.{getD-append-add, getD-drop}
+use lib.Dec.{leb, ltb}
+use borrow.Author.Tests.{ltb-true, leb-true, lt-ltb, le-ltb, le-leb}
+use Rattle.lists.specs.Entries.{over}
+use Rattle.lists.specs.Test.{allTo}
+use Rattle.lists.proofs.Bools.{both, three, four}
+use Rattle.lists.proofs.Test.{all-at, all-of}
+use Rattle.station.specs.Fit.{countsIn}
+use Rattle.station.specs.declared.Station.{Station}
+use Rattle.station.proofs.Tests.{of-counts}
+use Rattle.station.proofs.Vectors.{zeros-at}
+use Rattle.election.specs.System.{places, longestDelay, noMessage, unused, messages, holding}
+use Rattle.election.specs.Sound.{emptyMessage, messageIn, beforeSlot, messageAt, linkIn}
+use Rattle.election.specs.declared.Link.{Link}
+use Rattle.election.specs.declared.Message.{Message}
+use Rattle.election.proofs.Spaced.{Spaced, spaced-at, spaced-apart, spaced-take}
+
+-- a message under way from a sender
+pub record Posted (n period tick : ℕ) (sender : Station) (m : Message) : Type 0 where
+  pub sent-by : m .sent ≤ tick
+  pub due-after : tick < m .due
+  pub due-by : m .due ≤ m .sent + 64
+  pub counts : countsIn n (m .counts) ≡ true
+  pub before : sender .up ≡ true → m .sent + period ≤ sender .slot
+
+module _ (n period tick : ℕ) (sender : Station) (m : Message) where
+  pub posted-of : (messageIn n tick m && beforeSlot period sender m) ≡ true → Posted n period tick sender m
+  unfolding messageIn beforeSlot
+  posted-of e =
+      let (i, b) = both (messageIn n tick m) (beforeSlot period sender m) e in
+      let (s, d, l, c) = four (leb (m .sent) tick) (ltb tick (m .due)) (leb (m .due) (m .sent + longestDelay)) (countsIn n (m .counts)) i in
+      record {
+        sent-by = leb-true (m .sent) tick s;
+        due-after = ltb-true tick (m .due) d;
+        due-by = leb-true (m .due) (m .sent + longestDelay) l;
+        counts = c;
+        before = λ u. leb-true (m .sent + period) (sender .slot) (ap (λ x. cond x (leb (m .sent + period) (sender .slot)) true) (sym u) ∙ b);
+      }
+
+  of-before : Posted n period tick sender m → (b : Bool) → sender .up ≡ b → cond b (leb (m .sent + period) (sender .slot)) true ≡ true
+  of-before p true u = le-leb (m .sent + period) (sender .slot) (p .before u)
+  of-before p false u = refl
+
+  pub of-posted : Posted n period tick sender m → (messageIn n tick m && beforeSlot period sender m) ≡ true
+  unfolding messageIn beforeSlot
+  of-posted p =
+      rw (le-leb (m .sent) tick (p .sent-by), lt-ltb tick (m .due) (p .due-after), le-leb (m .due) (m .sent + longestDelay) (p .due-by), p .counts)
+      (of-before p (sender .up) refl)
+
+-- a link from a sender, place by place
+pub record Linked (n period tick : ℕ) (sender : Station) (l : Link) : Type 0 where
+  pub few : l .used ≤ 4
+  pub held : (k : ℕ) → k < l .used → Posted n period tick sender (messageAt l k)
+  pub rest : (k : ℕ) → k < 4 → l .used ≤ k → emptyMessage (messageAt l k) ≡ true
+  pub apart : (k : ℕ) → suc k < l .used → messageAt l k .sent + period ≤ messageAt l (suc k) .sent
+
+module _ (n period tick : ℕ) (sender : Station) (l : Link) where
+  posted : ℕ → Bool
+  posted k = messageIn n tick (messageAt l k) && beforeSlot period sender (messageAt l k)
+
+  spaced : ℕ → Bool
+  spaced k = leb (messageAt l k .sent + period) (messageAt l (k + 1) .sent)
+
+  abbrev placed : ℕ → Bool
+  placed k = cond (ltb k (l .used)) (posted k) (emptyMessage (messageAt l k))
+
+  abbrev ordered : ℕ → Bool
+  ordered k = cond (ltb (k + 1) (l .used)) (spaced k) true
+
+  pub linked-of : linkIn n period tick sender l ≡ true → Linked n period tick sender l
+  unfolding linkIn posted spaced
+  linked-of e =
+      let (u, p, o) = three (leb (l .used) places) (allTo places placed) (allTo places ordered) e in
+      let few : l .used ≤ 4 = leb-true (l .used) places u in
+      record {
+        few = few;
+        held = λ k h. posted-of n period tick sender (messageAt l k) (ap (λ b. cond b (posted k) (emptyMessage (messageAt l k))) (sym (lt-ltb k (l .used) h)) ∙ all-at places k placed p (omega arith));
+        rest = λ k i h. ap (λ b. cond b (posted k) (emptyMessage (messageAt l k))) (sym (le-ltb k (l .used) h)) ∙ all-at places k placed p i;
+        apart = λ k h.
+            let z : spaced k ≡ true = ap (λ b. cond b (spaced k) true) (sym (lt-ltb (k + 1) (l .used) (omega arith))) ∙ all-at places k ordered o (omega arith) in
+            rw (sym (add-one k)) (leb-true (messageAt l k .sent + period) (messageAt l (k + 1) .sent) z);
+      }
+
+  pub of-linked : Linked n period tick sender l → linkIn n period tick sender l ≡ true
+  unfolding linkIn posted spaced
+  of-linked f =
+      rw (le-leb (l .used) places (f .few), all-of places placed (λ k h. at k h (decLt k (l .used))), all-of places ordered (λ k h. next k (decLt (k + 1) (l .used))))
+    where
+      at : (k : ℕ) → k < 4 → Dec (k < l .used) → placed k ≡ true
+      at k h (yes i) = rw (lt-ltb k (l .used) i) (of-posted n period tick sender (messageAt l k) (f .held k i))
+      at k h (no i) = rw (le-ltb k (l .used) (omega arith)) (f .rest k h (omega arith))
+
+      next : (k : ℕ) → Dec (k + 1 < l .used) → ordered k ≡ true
+      next k (yes i) =
+          rw (lt-ltb (k + 1) (l .used) i)
+          (le-leb (messageAt l k .sent + period) (messageAt l (k + 1) .sent) (rw (add-one k) (f .apart k (omega arith))))
+      next k (no i) = rw (le-ltb (k + 1) (l .used) (omega arith))
+
+  -- its messages, as a list
+  pub linked-spaced : Linked n period tick sender l → Spaced (Posted n period tick sender) period 0 (messages l)
+  unfolding messages
+  linked-spaced f = spaced-take 0 (l .used) (l .messages) (λ k h. inside k (f .held k h) (decLt k (length (l .messages)))) (f .held) (f .apart) (λ h. omega arith)
+    where
+      inside : (k : ℕ) → Posted n period tick sender (messageAt l k) → Dec (k < length (l .messages)) → k < length (l .messages)
+      inside k p (yes i) = i
+      inside k p (no i) =
+          let e : messageAt l k .due ≡ 0 = ap (λ x. x .due) (List·getD-eq-default (l .messages) noMessage {n = k} (omega arith)) in
+          absurd (omega (arith, p .due-after))
+
+-- what a link that holds up to four messages has at its places
+module _ (ms : List Message) (h : length ms ≤ 4) where
+  pub holding-used : holding ms .used ≡ length ms
+  unfolding holding
+  holding-used = refl
+
+  pub holding-at : (k : ℕ) → k < length ms → messageAt (holding ms) k ≡ getD ms k noMessage
+  unfolding holding over
+  holding-at k i = List·getD-append ms (drop (length ms) (replicate 4 unused)) noMessage k i
+
+  pub holding-rest : (k : ℕ) → k < 4 → length ms ≤ k → messageAt (holding ms) k ≡ unused
+  unfolding holding over
+  holding-rest k i j =
+      let e : length ms + (k - length ms) ≡ k = omega arith in
+      ap (λ x. getD (ms ++ drop (length ms) (replicate 4 unused)) x noMessage) (sym e)
+      ∙ getD-append-add ms (drop (length ms) (replicate 4 unused)) (k - length ms) noMessage
+      ∙ getD-drop (length ms) (replicate 4 unused) (k - length ms) noMessage
+      ∙ ap (λ x. getD (replicate 4 unused) x noMessage) e
+      ∙ getD-replicate 4 k unused noMessage i
+
+-- an unused place is zero
+pub unused-empty : emptyMessage unused ≡ true
+unfolding emptyMessage
+unused-empty = of-counts 0 (replicate 8 0) (λ k h. omega (arith, zeros-at k))
+
+module _ (n period tick : ℕ) (sender : Station) (ms : List Message) where
+  pub holding-linked : length ms ≤ 4 → Spaced (Posted n period tick sender) period 0 ms → Linked n period tick sender (holding ms)
+  holding-linked h f =
+      let u : holding ms .used ≡ length ms = holding-used ms h in
+      record {
+        few = omega arith;
+        held = λ k i. (let j : k < length ms = omega arith in rw (holding-at ms h k j) (spaced-at k j f));
+        rest = λ k i j. rw (holding-rest ms h k i (omega arith)) unused-empty;
+        apart = λ k i. (let j : suc k < length ms = omega arith in rw (holding-at ms h k (omega arith), holding-at ms h (suc k) j) (spaced-apart k j f));
+      }

@@ -1,0 +1,104 @@
+-- What stands where after each change of a system.
+use mathlib.Core.Path.{_≡_, refl, sym, ap, _∙_}
+use mathlib.Core.Logic.{_≢_}
+use mathlib.Core.List.{List, [], _∷_, _++_}
+use mathlib.Core.Bool.{Bool, true, false, cond, not, _&&_}
+use Prim.Native.Nat.{ℕ, zero, suc, _+_, _-_, _*_, _/_, _%_, _<_, _≤_}
+use native.Mathlib.Omega.{arith}
+use lib.ListN.{length, getD, take, set, replicate}
+use lib.Seq.{getD-set-same, getD-set-other}
+use lib.Dec.{ltb, eqb}
+use borrow.Author.Tests.{lt-ltb, ne-eqb}
+use Rattle.lists.specs.Entries.{upTo, over}
+use Rattle.lists.proofs.Entries.{getD-upTo, take-over}
+use Rattle.station.specs.declared.Station.{Station}
+use Rattle.election.specs.System.{noStation, noLink, station, place, from, to, delay, sentBy, messages, holding, underway, isLink}
+use Rattle.election.specs.Tick.{next, slottedNow, settled, sending, underwayAfter, tick}
+use Rattle.election.specs.declared.Link.{Link}
+use Rattle.election.specs.declared.Message.{Message}
+use Rattle.election.specs.declared.System.{System}
+
+-- a station of the system
+pub record In (n p : ℕ) : Type 0 where
+  pub low : 1 ≤ p
+  pub high : p ≤ n
+
+-- a link's place, and the link at it
+module _ (p q : ℕ) (hp : In 8 p) (hq : In 8 q) where
+  pub place-in : place p q < 64
+  place-in = omega (arith, hp .low, hp .high, hq .low, hq .high)
+
+  pub from-place : from (place p q) ≡ p
+  from-place = omega (arith, hp .low, hp .high, hq .low, hq .high)
+
+  pub to-place : to (place p q) ≡ q
+  to-place = omega (arith, hp .low, hp .high, hq .low, hq .high)
+
+-- two links at one place are one link
+pub same-place : (p q a b : ℕ) → In 8 p → In 8 q → In 8 a → In 8 b → place p q ≡ place a b → (p ≡ a) × (q ≡ b)
+same-place p q a b hp hq ha hb e =
+    (omega (arith, hp .low, hp .high, hq .low, hq .high, ha .low, ha .high, hb .low, hb .high), omega (arith, hp .low, hp .high, hq .low, hq .high, ha .low, ha .high, hb .low, hb .high))
+
+pub widen : (n p : ℕ) → n ≤ 8 → In n p → In 8 p
+widen n p h i = record { low = i .low; high = omega (arith, i .high) }
+
+-- an entry of a table over the links
+pub at-link : {A : Type 0} (f : ℕ → ℕ → A) (p q : ℕ) (d : A) → In 8 p → In 8 q → getD (upTo 64 (λ k. f (from k) (to k))) (place p q) d ≡ f p q
+at-link f p q d hp hq =
+    getD-upTo 64 (λ k. f (from k) (to k)) (place p q) d (place-in p q hp hq) ∙ ap (λ x. f x (to (place p q))) (from-place p q hp hq) ∙ ap (f p) (to-place p q hp hq)
+
+pub is-link : (n p q : ℕ) → In n p → In n q → p ≢ q → isLink n p q ≡ true
+is-link n p q hp hq ne = rw (lt-ltb (p - 1) n (omega (arith, hp .low, hp .high)), lt-ltb (q - 1) n (omega (arith, hq .low, hq .high)), ne-eqb p q ne)
+
+-- a link that holds up to four messages has them
+pub messages-holding : (ms : List Message) → length ms ≤ 4 → messages (holding ms) ≡ ms
+unfolding messages holding
+messages-holding ms h = take-over (length ms) ms (replicate 4 _) refl
+
+-- the system after a tick
+module _ (s : System) where
+  pub tick-tick : tick s .tick ≡ s .tick + 1
+  unfolding tick
+  tick-tick = refl
+
+  pub tick-n : tick s .n ≡ s .n
+  unfolding tick
+  tick-n = refl
+
+  pub tick-period : tick s .period ≡ s .period
+  unfolding tick
+  tick-period = refl
+
+  pub tick-ready : tick s .ready ≡ s .ready
+  unfolding tick
+  tick-ready = refl
+
+  pub tick-delay : (p q : ℕ) → delay (tick s) p q ≡ delay s p q
+  unfolding tick
+  tick-delay p q = refl
+
+  module _ (n-high : s .n ≤ 8) where
+    pub tick-station : (p : ℕ) → In (s .n) p → station (tick s) p ≡ slottedNow (s .period) (next s) (settled s p)
+    unfolding tick
+    tick-station p h =
+        let e : p - 1 + 1 ≡ p = omega (arith, h .low) in
+        getD-upTo 8 (λ k. cond (ltb k (s .n)) (slottedNow (s .period) (next s) (settled s (k + 1))) (getD (s .stations) k noStation)) (p - 1) noStation (omega (arith, h .low, h .high))
+        ∙ rw (lt-ltb (p - 1) (s .n) (omega (arith, h .low, h .high)), e)
+
+    pub tick-sent : (p : ℕ) → In (s .n) p → sentBy (tick s) p ≡ cond (sending s p) (sentBy s p + (s .n - 1)) (sentBy s p)
+    unfolding tick
+    tick-sent p h =
+        let e : p - 1 + 1 ≡ p = omega (arith, h .low) in
+        getD-upTo 8 (λ k. cond (ltb k (s .n) && sending s (k + 1)) (getD (s .sent) k 0 + (s .n - 1)) (getD (s .sent) k 0)) (p - 1) 0 (omega (arith, h .low, h .high))
+        ∙ rw (lt-ltb (p - 1) (s .n) (omega (arith, h .low, h .high)), e)
+
+    pub tick-link : (p q : ℕ) → In (s .n) p → In (s .n) q → p ≢ q → getD (tick s .links) (place p q) noLink ≡ holding (underwayAfter s p q)
+    unfolding tick
+    tick-link p q hp hq ne =
+        let wp : In 8 p = widen (s .n) p n-high hp in
+        let wq : In 8 q = widen (s .n) q n-high hq in
+        getD-upTo 64 (λ k. cond (isLink (s .n) (from k) (to k)) (holding (underwayAfter s (from k) (to k))) (getD (s .links) k noLink)) (place p q) noLink (place-in p q wp wq)
+        ∙ rw (from-place p q wp wq, to-place p q wp wq, is-link (s .n) p q hp hq ne)
+
+    pub tick-underway : (p q : ℕ) → In (s .n) p → In (s .n) q → p ≢ q → length (underwayAfter s p q) ≤ 4 → underway (tick s) p q ≡ underwayAfter s p q
+    tick-underway p q hp hq ne h = ap messages (tick-link p q hp hq ne) ∙ messages-holding (underwayAfter s p q) h

@@ -1,0 +1,159 @@
+-- What holds of every system that a schedule reaches, beyond soundness: A of the settling proof; kept by each tick.
+use mathlib.Core.Path.{_≡_, refl, sym, ap, _∙_}
+use mathlib.Core.Logic.{_≢_}
+use mathlib.Core.Bool.{Bool, true, false, cond, not, _&&_}
+use mathlib.Core.List.{List, [], _∷_, _++_}
+use Prim.Native.Nat.{ℕ, _+_, _-_, _*_, _≤_, _<_}
+use native.Mathlib.Omega.{arith}
+use native.Mathlib.Decide.{ℕ-discrete}
+use native.Mathlib.Nat.{le-of-eq}
+use lib.ListN.{length, getD}
+use lib.Dec.{eqb}
+use borrow.Author.Tests.{eqb-true, eqb-false, not-true}
+use Rattle.lists.specs.Every.{All}
+use Rattle.lists.proofs.Bools.{both, three, cond-elim}
+use Rattle.lists.proofs.Every.{all-map, all-append}
+use Rattle.station.specs.Order.{entry}
+use Rattle.station.specs.declared.Station.{Station}
+use Rattle.station.proofs.Unchanged.{Unchanged}
+use Rattle.election.specs.System.{noLink, station, place, delay, messages, underway}
+use Rattle.election.specs.Sound.{messageAt}
+use Rattle.election.specs.Tick.{next, heardAll, expiredNow, slottedNow, settled, sending, later, sent, underwayAfter, tick}
+use Rattle.election.specs.declared.Message.{Message}
+use Rattle.election.specs.declared.System.{System}
+use Rattle.election.proofs.Calm.{Sane, hear-sane, expire-sane, slot-sane}
+use Rattle.election.proofs.Mail.{Posted, Linked, linked-spaced}
+use Rattle.election.proofs.Places.{In, widen, place-in, from-place, to-place, tick-station, tick-underway, tick-tick, tick-n, tick-period}
+use Rattle.election.proofs.Soundness.{Sound, emptyPlace, no-self}
+use Rattle.election.proofs.Spaced.{Spaced, none, more}
+use Rattle.election.proofs.Steps.{slottedNow-elim, all-keeps, settled-up, settled-unchanged}
+use Rattle.election.proofs.TickSound.{tick-sound, after-few}
+
+-- every number
+abbrev pub always : ℕ → Bool
+always x = true
+
+-- a head's start count
+abbrev pub counts : System → ℕ → ℕ
+counts s x = station s x .incarnation
+
+-- a message knows no more starts than there were
+abbrev pub Low : System → Message → Type 0
+Low s m = (x : ℕ) → In (s .n) x → entry (m .counts) x ≤ counts s x
+
+pub record Reached (s : System) : Type 0 where
+  pub sound : Sound s
+  pub heads : (p : ℕ) → In (s .n) p → station s p .up ≡ true → Sane (s .n) (s .period) always (counts s) p (s .tick + 1) (station s p)
+  pub paced : (p : ℕ) → In (s .n) p → station s p .up ≡ true → station s p .recovering ≡ false → station s p .slot ≤ s .tick + s .period
+  pub mail : (q p : ℕ) → In (s .n) q → In (s .n) p → q ≢ p → All (Low s) (underway s q p)
+
+-- what holds of each message that is spaced
+spaced-all : {P : Message → Type 0} {period low : ℕ} {ms : List Message} → Spaced P period low ms → All P ms
+spaced-all none = tt
+spaced-all (more l p r) = (p, spaced-all r)
+
+module _ (s : System) (h : Sound s) where
+  -- what is under way is due after the tick
+  pub underway-due : (q p : ℕ) → In (s .n) q → In (s .n) p → q ≢ p → All (λ (m : Message). s .tick < m .due) (underway s q p)
+  underway-due q p iq ip ne =
+      all-map (Posted (s .n) (s .period) (s .tick) (station s q)) _ (λ m f. f .due-after) (underway s q p)
+      (spaced-all (linked-spaced (s .n) (s .period) (s .tick) (station s q) (getD (s .links) (place q p) noLink) (h .linked q p iq ip ne)))
+
+  -- nothing is under way from a station to itself
+  pub underway-self : (p : ℕ) → In (s .n) p → underway s p p ≡ []
+  unfolding emptyPlace messages
+  underway-self p ip =
+      let w : In 8 p = widen (s .n) p (h .n-high) ip in
+      let e : emptyPlace (getD (s .delays) (place p p) 0) (getD (s .links) (place p p) noLink) ≡ true =
+        h .no-link (place p p) (place-in p p w w) (rw (from-place p p w w, to-place p p w w) (no-self (s .n) p)) in
+      let (a, b, c) = three (eqb (getD (s .delays) (place p p) 0) 0) (eqb (getD (s .links) (place p p) noLink .used) 0) _ e in
+      rw (eqb-true (getD (s .links) (place p p) noLink .used) 0 b)
+
+-- facts about what is due now, sender by sender
+pub inbox-all : (s : System) → Sound s → (P : ℕ → Message → Type 0) (p : ℕ) → In (s .n) p
+    → ((q : ℕ) → In (s .n) q → q ≢ p → All (P q) (underway s q p)) → (q : ℕ) → In (s .n) q → All (λ m. (q ≢ p) × P q m) (underway s q p)
+inbox-all s h P p ip f q iq = go (ℕ-discrete q p)
+  where
+    go : Dec (q ≡ p) → All (λ m. (q ≢ p) × P q m) (underway s q p)
+    go (yes e) = rw (e, underway-self s h p ip) tt
+    go (no ne) = all-map (P q) _ (λ m x. (ne, x)) (underway s q p) (f q iq ne)
+
+-- what a filter keeps
+pub later-all : (P Q : Message → Type 0) (now : ℕ) (ms : List Message) → ((m : Message) → m .due ≢ now → P m → Q m) → All P ms → All Q (later now ms)
+unfolding later
+later-all P Q now [] f h = tt
+later-all P Q now (m ∷ ms) f h =
+    let rest : All Q (later now ms) = later-all P Q now ms f (h .1) in
+    cond-elim (All Q) (eqb (m .due) now) (λ e. rest) (λ e. (f m (eqb-false _ _ e) (h .0), rest))
+
+-- what is sent, if anything is
+pub sent-all : (P : Message → Type 0) (s : System) (p q : ℕ)
+    → (sending s p ≡ true → delay s p q ≢ 0 → P (record { sent = next s; due = next s + delay s p q; counts = settled s p .recovered })) → All P (sent s p q)
+unfolding sent
+sent-all P s p q f =
+    cond-elim (All P) (sending s p && not (eqb (delay s p q) 0))
+    (λ e. let (a, b) = both (sending s p) (not (eqb (delay s p q) 0)) e in (f a (eqb-false _ _ (not-true _ b)), tt)) (λ e. tt)
+
+-- who sends is up, at its send chance, and trusts itself
+pub sending-of : (s : System) (p : ℕ) → sending s p ≡ true → (station s p .up ≡ true) × (station s p .slot ≡ next s) × (settled s p .leader ≡ p)
+unfolding sending
+sending-of s p e =
+    let (a, b, c) = three (settled s p .up) (eqb (settled s p .slot) (next s)) (eqb (settled s p .leader) p) e in
+    let u : Unchanged (station s p) (settled s p) = settled-unchanged s p in
+    (sym (u .up) ∙ a, sym (u .slot) ∙ eqb-true _ _ b, eqb-true _ _ c)
+
+-- counts that only rise
+pub recount : (n period : ℕ) (C C′ : ℕ → ℕ) (p b : ℕ) (x : Station) → In n p → ((y : ℕ) → In n y → C y ≤ C′ y) → C p ≡ C′ p → Sane n period always C p b x → Sane n period always C′ p b x
+recount n period C C′ p b x ip le e h =
+    record { own = h .own ∙ e; low = λ q iq t. omega (arith, h .low q iq t, le q iq); range = h .range; ahead = h .ahead; slow = h .slow; on = h .on; off = h .off }
+
+-- a tick changes neither who is up nor a start count
+module _ (s : System) (n-high : s .n ≤ 8) (p : ℕ) (ip : In (s .n) p) where
+  pub tick-up : station (tick s) p .up ≡ station s p .up
+  tick-up =
+      ap (λ (y : Station). y .up) (tick-station s n-high p ip)
+      ∙ slottedNow-elim (λ (y : Station). y .up ≡ station s p .up) (s .period) (next s) (settled s p) (λ e. settled-unchanged s p .up) (λ e. settled-unchanged s p .up)
+
+  pub tick-count : counts (tick s) p ≡ counts s p
+  tick-count =
+      ap (λ (y : Station). y .incarnation) (tick-station s n-high p ip)
+      ∙ slottedNow-elim (λ (y : Station). y .incarnation ≡ counts s p) (s .period) (next s) (settled s p) (λ e. settled-unchanged s p .incarnation) (λ e. settled-unchanged s p .incarnation)
+
+module _ (s : System) (h : Reached s) where
+  abbrev small : s .n ≤ 8
+  small = h .sound .n-high
+
+  -- after (a) and (b)
+  pub settled-sane : (p : ℕ) → In (s .n) p → station s p .up ≡ true → Sane (s .n) (s .period) always (counts s) p (next s + 1) (settled s p)
+  settled-sane p ip u =
+      rw (settled-up s p u)
+      (expire-sane (s .n) (s .period) small always (counts s) p ip (next s) _ (omega arith)
+      (all-keeps (Sane (s .n) (s .period) always (counts s) p (next s)) (λ q v. (q ≢ p) × ((x : ℕ) → In (s .n) x → entry v x ≤ counts s x)) (s .n) p (next s) (λ q. underway s q p)
+        (λ q v y iq f. hear-sane (s .n) (s .period) small always (counts s) p ip (next s) q v y refl iq (f .0) (λ x ix t. f .1 x ix))
+        (λ q iq. all-map (λ m. (q ≢ p) × Low s m) _ (λ m f e. f) (underway s q p) (inbox-all s (h .sound) (λ q. Low s) p ip (λ q iq ne. h .mail q p iq ip ne) q iq))
+        (station s p) (h .heads p ip u)))
+
+  heads′ : (p : ℕ) → In (s .n) p → station (tick s) p .up ≡ true → Sane (s .n) (s .period) always (counts (tick s)) p (next s + 1) (station (tick s) p)
+  heads′ p ip u =
+      recount (s .n) (s .period) (counts s) (counts (tick s)) p (next s + 1) (station (tick s) p) ip (λ x ix. le-of-eq (sym (tick-count s small x ix))) (sym (tick-count s small p ip))
+      (rw (tick-station s small p ip) (slot-sane (s .n) (s .period) small always (counts s) p ip (next s + 1) (next s) (settled s p) (settled-sane p ip (sym (tick-up s small p ip) ∙ u))))
+
+  paced′ : (p : ℕ) → In (s .n) p → station (tick s) p .up ≡ true → station (tick s) p .recovering ≡ false → station (tick s) p .slot ≤ next s + s .period
+  paced′ p ip u =
+      let v : Unchanged (station s p) (settled s p) = settled-unchanged s p in
+      let old : station s p .recovering ≡ false → station s p .slot ≤ s .tick + s .period = h .paced p ip (sym (tick-up s small p ip) ∙ u) in
+      rw (tick-station s small p ip)
+      (slottedNow-elim (λ (y : Station). y .recovering ≡ false → y .slot ≤ next s + s .period) (s .period) (next s) (settled s p)
+      (λ e w. omega arith) (λ e w. omega (arith, v .slot, old (sym (v .recovering) ∙ w))))
+
+  mail′ : s .tick < 1000000 → (q p : ℕ) → In (s .n) q → In (s .n) p → q ≢ p → All (λ (m : Message). (x : ℕ) → In (s .n) x → entry (m .counts) x ≤ counts (tick s) x) (underway (tick s) q p)
+  mail′ more-ticks q p iq ip ne =
+      rw (tick-underway s small q p iq ip ne (after-few s (h .sound) more-ticks q p iq ip ne))
+      (all-map (Low s) _ (λ m f x ix. omega (arith, f x ix, tick-count s small x ix)) (underwayAfter s q p)
+      (all-append (Low s) (later (next s) (underway s q p)) (sent s q p)
+        (later-all (Low s) (Low s) (next s) (underway s q p) (λ m d f. f) (h .mail q p iq ip ne))
+        (sent-all (Low s) s q p (λ e d x ix. settled-sane q iq (sending-of s q e .0) .low x ix refl))))
+
+  pub tick-reached : s .tick < 1000000 → Reached (tick s)
+  unfolding tick
+  tick-reached more-ticks = record { sound = tick-sound s (h .sound) more-ticks; heads = heads′; paced = paced′; mail = mail′ more-ticks }

@@ -1,0 +1,144 @@
+-- Every accepted command keeps what holds of reached systems.
+use mathlib.Core.Path.{_≡_, refl, sym, ap, _∙_}
+use mathlib.Core.Logic.{_≢_}
+use mathlib.Core.Bool.{Bool, true, false, cond, true≢false}
+use mathlib.Core.List.{List, [], _∷_}
+use Prim.Native.Nat.{ℕ, zero, suc, _+_, _-_, _*_, _≤_, _<_}
+use native.Mathlib.Decide.{ℕ-discrete, decLt}
+use native.Mathlib.Nat.{le-refl}
+use native.Mathlib.Omega.{arith}
+use lib.Dec.{eqb, ltb}
+use lib.ListN.{length, getD, set, replicate, List·getD-eq-default}
+use lib.Seq.{getD-set-same, getD-set-other, set-out}
+use borrow.Author.Tests.{ne-eqb, eq-eqb}
+use Rattle.lists.specs.Every.{All}
+use Rattle.lists.specs.Entries.{upTo}
+use Rattle.lists.specs.First.{firstFailed}
+use Rattle.lists.proofs.Entries.{getD-upTo}
+use Rattle.lists.proofs.Every.{all-map}
+use Rattle.station.specs.Order.{entry}
+use Rattle.station.specs.Rules.{other, started, crashed}
+use Rattle.station.specs.declared.Station.{Station}
+use Rattle.station.proofs.Candidates.{keyOf}
+use Rattle.station.proofs.Elimination.{startedWith, started-elim, crashed-elim}
+use Rattle.station.proofs.Tests.{fit-ranges, fit-of}
+use Rattle.station.proofs.Vectors.{other-of}
+use Rattle.election.specs.Commands.{Command, SetUp, Start, Crash, Link, Run, Lose, Report, tests, withStation, withDelay, withoutMessages, perform}
+use Rattle.election.specs.Sound.{sound}
+use Rattle.election.specs.System.{noStation, noLink, station, place, messages, holding, underway, fresh, initial, unstarted}
+use Rattle.election.specs.Tick.{tick, ticks}
+use Rattle.election.specs.declared.Message.{Message}
+use Rattle.election.specs.declared.System.{System}
+use Rattle.election.proofs.Accepting.{Accepts, accepts}
+use Rattle.election.proofs.Calm.{Sane}
+use Rattle.election.proofs.Changes.{start-sound, crash-sound, delay-sound, lose-sound}
+use Rattle.election.proofs.InitialSound.{initial-sound}
+use Rattle.election.proofs.Places.{In, widen, same-place, tick-tick}
+use Rattle.election.proofs.Reached.{always, counts, Low, Reached, recount, tick-reached}
+use Rattle.election.proofs.Soundness.{Sound}
+
+-- a station of the system stands in its list
+pub in-stations : (s : System) → Sound s → (p : ℕ) → In (s .n) p → p - 1 < length (s .stations)
+in-stations s f p ip = go (decLt (p - 1) (length (s .stations)))
+  where
+    go : Dec (p - 1 < length (s .stations)) → p - 1 < length (s .stations)
+    go (yes l) = l
+    go (no l) =
+        let e : station s p .stable ≡ 0 = ap (λ (x : Station). x .stable) (List·getD-eq-default (s .stations) noStation {n = p - 1} (omega arith)) in
+        absurd (omega (arith, fit-ranges p (s .n) (s .period) (s .tick) (station s p) (f .fits p ip) .1 .low))
+
+-- station p changed to x
+module _ (s : System) (f : Sound s) (p : ℕ) (ip : In (s .n) p) (x : Station) where
+  pub changed-same : station (withStation p x s) p ≡ x
+  changed-same = getD-set-same (s .stations) (p - 1) x noStation (in-stations s f p ip)
+
+  pub changed-other : (r : ℕ) → 1 ≤ r → r ≢ p → station (withStation p x s) r ≡ station s r
+  changed-other r low ne = getD-set-other (s .stations) (p - 1) (r - 1) x noStation (λ e. ne (let g : r ≡ p = omega (arith, ip .low) in g))
+
+  -- with a count that does not fall, and sane if it is up
+  pub changed-reached : Reached s → Sound (withStation p x s) → counts s p ≤ x .incarnation
+      → (x .up ≡ true → (C : ℕ → ℕ) → C p ≡ x .incarnation → Sane (s .n) (s .period) always C p (s .tick + 1) x)
+      → (x .up ≡ true → x .recovering ≡ false → x .slot ≤ s .tick + s .period)
+      → Reached (withStation p x s)
+  changed-reached h snd rises sane paced =
+      record
+        { sound = snd
+        ; heads = λ r ir. go-heads r ir (ℕ-discrete r p)
+        ; paced = λ r ir. go-paced r ir (ℕ-discrete r p)
+        ; mail = λ q r iq ir ne. all-map (Low s) _ (λ m g y iy. low m g y iy (ℕ-discrete y p)) (underway s q r) (h .mail q r iq ir ne)
+        }
+    where
+      s′ : System
+      s′ = withStation p x s
+
+      up-to : (y : ℕ) → In (s .n) y → counts s y ≤ station (withStation p x s) y .incarnation
+      up-to y iy = go (ℕ-discrete y p)
+        where
+          go : Dec (y ≡ p) → counts s y ≤ station (withStation p x s) y .incarnation
+          go (yes e) = rw (e, changed-same) rises
+          go (no ne) = rw (changed-other y (iy .low) ne) (le-refl (counts s y))
+
+      low : (m : Message) → Low s m → (y : ℕ) → In (s .n) y → Dec (y ≡ p) → entry (m .counts) y ≤ station (withStation p x s) y .incarnation
+      low m g y iy d = omega (arith, g y iy, up-to y iy)
+
+      go-heads : (r : ℕ) → In (s .n) r → Dec (r ≡ p) → station (withStation p x s) r .up ≡ true → Sane (s .n) (s .period) always (counts (withStation p x s)) r (s .tick + 1) (station (withStation p x s) r)
+      go-heads r ir (yes e) = rw (e, changed-same) (λ u. sane u (counts (withStation p x s)) (ap (λ (y : Station). y .incarnation) changed-same))
+      go-heads r ir (no ne) =
+          let same : station (withStation p x s) r ≡ station s r = changed-other r (ir .low) ne in
+          λ u. recount (s .n) (s .period) (counts s) (counts (withStation p x s)) r (s .tick + 1) (station (withStation p x s) r) ir up-to (ap (λ (y : Station). y .incarnation) (sym same))
+          (rw same (h .heads r ir (ap (λ (y : Station). y .up) (sym same) ∙ u)))
+
+      go-paced : (r : ℕ) → In (s .n) r → Dec (r ≡ p) → station (withStation p x s) r .up ≡ true → station (withStation p x s) r .recovering ≡ false → station (withStation p x s) r .slot ≤ s .tick + s .period
+      go-paced r ir (yes e) = rw (e, changed-same) paced
+      go-paced r ir (no ne) = rw (changed-other r (ir .low) ne) (h .paced r ir)
+
+-- a station that starts
+start-sane : (n period tick : ℕ) → n ≤ 8 → (p : ℕ) → In n p → (x : Station) → In n (x .stable) → (C : ℕ → ℕ) → C p ≡ x .incarnation + 1 → Sane n period always C p (tick + 1) (started p n period tick x)
+start-sane n period tick small p ip x st C e =
+    started-elim (Sane n period always C p (tick + 1)) p n period tick x (ip .low) (omega (arith, ip .high))
+    (λ v t sv sz own zeros times.
+      let waits : (q : ℕ) → In n q → q ≢ p → entry t q ≡ period + (x .incarnation + 1) =
+        λ q iq ne. times (q - 1) (omega (arith, iq .low, iq .high)) ∙ ap (λ b. cond b (period + (x .incarnation + 1)) 0) (other-of p n q (iq .low) (iq .high) ne) in
+      let none : (q : ℕ) → In n q → q ≢ p → entry v q ≡ 0 = λ q iq ne. zeros (q - 1) (λ i. ne (let j : q ≡ p = omega (arith, iq .low, ip .low) in j)) in
+      record
+        { own = own ∙ sym e
+        ; low = λ q iq u. low v C own e none q iq (ℕ-discrete q p)
+        ; range = st
+        ; ahead = λ ne. omega (arith, none (x .stable) st ne, st .high, ip .low)
+        ; slow = λ q iq ne. omega (arith, waits q iq ne)
+        ; on = λ ne. rw (ne-eqb (x .stable) p ne) (omega (arith, waits (x .stable) st ne))
+        ; off = λ i. rw (eq-eqb (x .stable) p i)
+        })
+  where
+    low : (v : List ℕ) (C : ℕ → ℕ) → entry v p ≡ x .incarnation + 1 → C p ≡ x .incarnation + 1 → ((q : ℕ) → In n q → q ≢ p → entry v q ≡ 0) → (q : ℕ) → In n q → Dec (q ≡ p) → entry v q ≤ C q
+    low v C own e none q iq (yes i) = rw i (omega (arith, own, e))
+    low v C own e none q iq (no ne) = omega (arith, none q iq ne)
+
+pub start-reached : (s : System) → Reached s → (p : ℕ) → In (s .n) p → station s p .incarnation < 4095 → Reached (withStation p (started p (s .n) (s .period) (s .tick) (station s p)) s)
+start-reached s h p ip few =
+    let k = fit-ranges p (s .n) (s .period) (s .tick) (station s p) (h .sound .fits p ip) .1 in
+    let st : In (s .n) (station s p .stable) = record { low = k .low; high = k .high } in
+    let rises : started p (s .n) (s .period) (s .tick) (station s p) .incarnation ≡ station s p .incarnation + 1 =
+      started-elim (λ y. y .incarnation ≡ station s p .incarnation + 1) p (s .n) (s .period) (s .tick) (station s p) (ip .low) (omega (arith, ip .high, h .sound .n-high)) (λ v t a b c d e. refl) in
+    changed-reached s (h .sound) p ip (started p (s .n) (s .period) (s .tick) (station s p)) h (start-sound s (h .sound) p ip few) (omega (arith, rises))
+    (λ u C e. start-sane (s .n) (s .period) (s .tick) (h .sound .n-high) p ip (station s p) st C (e ∙ rises))
+    (λ u w. absurd (true≢false (sym (started-elim (λ y. y .recovering ≡ true) p (s .n) (s .period) (s .tick) (station s p) (ip .low) (omega (arith, ip .high, h .sound .n-high)) (λ v t a b c d e. refl)) ∙ w)))
+
+pub crash-reached : (s : System) → Reached s → (p : ℕ) → In (s .n) p → station s p .up ≡ true → Reached (withStation p (crashed (station s p)) s)
+crash-reached s h p ip u =
+    let down : crashed (station s p) .up ≡ false = crashed-elim (λ y. y .up ≡ false) (station s p) refl in
+    let keeps : crashed (station s p) .incarnation ≡ station s p .incarnation = crashed-elim (λ y. y .incarnation ≡ station s p .incarnation) (station s p) refl in
+    changed-reached s (h .sound) p ip (crashed (station s p)) h (crash-sound s (h .sound) p ip u) (omega (arith, keeps))
+    (λ v C e. absurd (true≢false (sym v ∙ down)))
+    (λ v w. absurd (true≢false (sym v ∙ down)))
+
+-- a link whose messages are lost
+module _ (s : System) (a b : ℕ) (ia : In 8 a) (ib : In 8 b) where
+  pub lost-elim : (P : List Message → Type 0) (q p : ℕ) → In 8 q → In 8 p → P (underway s q p) → (q ≡ a → p ≡ b → P []) → P (underway (withoutMessages a b s) q p)
+  unfolding messages holding
+  lost-elim P q p iq ip h k = go (ℕ-discrete (place q p) (place a b)) (decLt (place a b) (length (s .links)))
+    where
+      go : Dec (place q p ≡ place a b) → Dec (place a b < length (s .links)) → P (messages (getD (set (s .links) (place a b) (holding [])) (place q p) noLink))
+      go (yes e) (yes l) = let (x, y) = same-place q p a b iq ip ia ib e in rw (e, getD-set-same (s .links) (place a b) (holding []) noLink l) (k x y)
+      go (yes e) (no l) = rw (set-out (s .links) (place a b) (holding []) (omega arith)) h
+      go (no ne) l = rw (getD-set-other (s .links) (place a b) (place q p) (holding []) noLink ne) h

@@ -1,0 +1,37 @@
+-- What is claimed of every system and every schedule; the theorems are in proofs/.
+use mathlib.Core.Path.{_≡_}
+use mathlib.Core.Logic.{_≢_}
+use mathlib.Core.List.{List}
+use mathlib.Core.Bool.{true}
+use Prim.Native.Nat.{ℕ, _<_, _≤_}
+use lib.ListN.{length}
+use Rattle.station.specs.Fit.{lastTick}
+use Rattle.election.specs.Commands.{command}
+use Rattle.election.specs.Schedule.{schedule}
+use Rattle.election.specs.Sound.{sound}
+use Rattle.election.specs.System.{places, fresh}
+use Rattle.election.specs.Tick.{underwayAfter}
+use Rattle.election.specs.declared.System.{System}
+
+-- the fresh system is sound
+abbrev pub FreshSound : Type 0
+FreshSound = sound fresh ≡ true
+
+-- every command keeps soundness, from every sound system
+abbrev pub KeepsSound : Type 0
+KeepsSound = (s : System) (bytes : List ℕ) → sound s ≡ true → sound (command s bytes .system) ≡ true
+
+-- a link never carries more than four messages
+abbrev pub FourPlaces : Type 0
+FourPlaces =
+    (s : System) → sound s ≡ true → s .ready ≡ true → s .tick < lastTick
+    → (p q : ℕ) → 1 ≤ p → p ≤ s .n → 1 ≤ q → q ≤ s .n → p ≢ q → length (underwayAfter s p q) ≤ places
+
+-- a refused command changes nothing, and its length is 0
+abbrev pub RefusedChangesNothing : Type 0
+RefusedChangesNothing =
+    (s : System) (bytes : List ℕ) → command s bytes .refusal ≢ 0 → (command s bytes .system ≡ s) × (command s bytes .length ≡ 0)
+
+-- a schedule never meets an unsound system
+abbrev pub NeverUnsound : Type 0
+NeverUnsound = (bytes : List ℕ) → schedule bytes .refusal ≢ 15

@@ -1,0 +1,175 @@
+-- Commands of one byte, and what is turned down.
+use mathlib.Core.List.{List, [], _∷_}
+use mathlib.Core.Bool.{Bool, cond, not, _&&_}
+use Prim.Native.Nat.{ℕ, _+_, _*_, _-_}
+use lib.ListN.{length, getD, set}
+use lib.Dec.{leb, ltb, eqb}
+use Rattle.lists.specs.First.{firstFailed}
+use Rattle.station.specs.Fit.{lastTick, mostStarts, within}
+use Rattle.station.specs.Rules.{started, crashed}
+use Rattle.station.specs.declared.Station.{Station}
+use Rattle.election.specs.Sound.{sound}
+use Rattle.election.specs.System.{longestDelay, station, place, holding, initial}
+use Rattle.election.specs.Tick.{ticks}
+use Rattle.election.specs.declared.Answer.{Answer}
+use Rattle.election.specs.declared.Answer.the-variants.{Done, Refused}
+use Rattle.election.specs.declared.Commanded.{Commanded}
+use Rattle.election.specs.declared.Refusal.{Refusal}
+use Rattle.election.specs.declared.Refusal.the-variants.{UnknownCommand, MissingOperand, NotSetUp, SetUpTwice, StationsRange, PeriodRange, StationRange, StationUp, StationDown, WornOut, SameStation, DelayRange, NoTicks, PastLastTick, Unsound, BufferShort, ScheduleLong}
+use Rattle.election.specs.declared.System.{System}
+
+-- a command with its operands
+pub data Command : Type 0 where
+  SetUp : ℕ → ℕ → Command
+  Start Crash : ℕ → Command
+  Link : ℕ → ℕ → ℕ → Command
+  Run : ℕ → Command
+  Lose : ℕ → ℕ → Command
+  Report : Command
+
+-- 01 set up, 02 start, 03 crash, 04 link, 05 run (low byte first), 06 lose, 07 report
+unfoldable pub decode : List ℕ → Command
+decode bytes =
+    let b : ℕ = getD bytes 0 0 in
+    let x : ℕ = getD bytes 1 0 in
+    let y : ℕ = getD bytes 2 0 in
+    let z : ℕ = getD bytes 3 0 in
+    cond (eqb b 1) (SetUp x y)
+    (cond (eqb b 2) (Start x)
+    (cond (eqb b 3) (Crash x)
+    (cond (eqb b 4) (Link x y z)
+    (cond (eqb b 5) (Run (x + 256 * y))
+    (cond (eqb b 6) (Lose x y)
+    Report)))))
+
+-- the bytes of its operands
+abbrev pub operands : Command → ℕ
+operands (SetUp n period) = 2
+operands (Start p) = 1
+operands (Crash p) = 1
+operands (Link p q d) = 3
+operands (Run t) = 2
+operands (Lose p q) = 2
+operands Report = 0
+
+-- what turns a command down, in order
+abbrev pub tests : System → Command → List (Bool × ℕ)
+tests s (SetUp n period) = (not (s .ready), 4) ∷ (within 2 n 8, 5) ∷ (within 16 period 255, 6) ∷ []
+tests s (Start p) =
+    (s .ready, 3) ∷ (within 1 p (s .n), 7) ∷ (not (station s p .up), 8) ∷ (ltb (station s p .incarnation) mostStarts, 10) ∷ []
+tests s (Crash p) = (s .ready, 3) ∷ (within 1 p (s .n), 7) ∷ (station s p .up, 9) ∷ []
+tests s (Link p q d) =
+    (s .ready, 3) ∷ (within 1 p (s .n) && within 1 q (s .n), 7) ∷ (not (eqb p q), 11) ∷ (leb d longestDelay, 12) ∷ []
+tests s (Run t) = (s .ready, 3) ∷ (ltb 0 t, 13) ∷ (leb (s .tick + t) lastTick, 14) ∷ []
+tests s (Lose p q) = (s .ready, 3) ∷ (within 1 p (s .n) && within 1 q (s .n), 7) ∷ (not (eqb p q), 11) ∷ []
+tests s Report = (s .ready, 3) ∷ []
+
+-- the refusal that the rules give to the first command of the bytes, 0 for none
+abbrev pub ruling : System → List ℕ → ℕ
+ruling s bytes =
+    firstFailed
+    ((ltb 0 (length bytes), 2)
+    ∷ (within 1 (getD bytes 0 0) 7, 1)
+    ∷ (ltb (operands (decode bytes)) (length bytes), 2)
+    ∷ tests s (decode bytes))
+
+-- 15 before all else
+unfoldable pub refusal : System → List ℕ → ℕ
+refusal s bytes = cond (sound s) (ruling s bytes) 15
+
+-- the system with another station p, delay or link from p to q
+abbrev pub withStation : ℕ → Station → System → System
+withStation p x s =
+    record
+      { ready = s .ready
+      ; n = s .n
+      ; period = s .period
+      ; tick = s .tick
+      ; stations = set (s .stations) (p - 1) x
+      ; sent = s .sent
+      ; delays = s .delays
+      ; links = s .links
+      }
+
+abbrev pub withDelay : ℕ → ℕ → ℕ → System → System
+withDelay p q d s =
+    record
+      { ready = s .ready
+      ; n = s .n
+      ; period = s .period
+      ; tick = s .tick
+      ; stations = s .stations
+      ; sent = s .sent
+      ; delays = set (s .delays) (place p q) d
+      ; links = s .links
+      }
+
+abbrev pub withoutMessages : ℕ → ℕ → System → System
+withoutMessages p q s =
+    record
+      { ready = s .ready
+      ; n = s .n
+      ; period = s .period
+      ; tick = s .tick
+      ; stations = s .stations
+      ; sent = s .sent
+      ; delays = s .delays
+      ; links = set (s .links) (place p q) (holding [])
+      }
+
+-- what an accepted command does
+unfoldable pub perform : Command → System → System
+perform (SetUp n period) s = initial n period
+perform (Start p) s = withStation p (started p (s .n) (s .period) (s .tick) (station s p)) s
+perform (Crash p) s = withStation p (crashed (station s p)) s
+perform (Link p q d) s = withDelay p q d s
+perform (Run t) s = ticks t s
+perform (Lose p q) s = withoutMessages p q s
+perform Report s = s
+
+-- what Command answers: the refusal, 0 for none; the length of the command; the system
+pub record Result : Type 0 where
+  pub refusal : ℕ
+  pub length : ℕ
+  pub system : System
+
+-- refused, the system comes back unchanged and the length is 0
+unfoldable pub command : System → List ℕ → Result
+command s bytes =
+    record
+      { refusal = refusal s bytes
+      ; length = cond (eqb (refusal s bytes) 0) (1 + operands (decode bytes)) 0
+      ; system = cond (eqb (refusal s bytes) 0) (perform (decode bytes) s) s
+      }
+
+-- document 01's number of a refusal
+abbrev pub numberOf : Refusal → ℕ
+numberOf UnknownCommand = 1
+numberOf MissingOperand = 2
+numberOf NotSetUp = 3
+numberOf SetUpTwice = 4
+numberOf StationsRange = 5
+numberOf PeriodRange = 6
+numberOf StationRange = 7
+numberOf StationUp = 8
+numberOf StationDown = 9
+numberOf WornOut = 10
+numberOf SameStation = 11
+numberOf DelayRange = 12
+numberOf NoTicks = 13
+numberOf PastLastTick = 14
+numberOf Unsound = 15
+numberOf BufferShort = 16
+numberOf ScheduleLong = 21
+
+-- number and length of an answer
+abbrev pub refusalOf : Answer → ℕ
+refusalOf (Done size) = 0
+refusalOf (Refused r) = numberOf r
+
+abbrev pub lengthOf : Answer → ℕ
+lengthOf (Done size) = size
+lengthOf (Refused r) = 0
+
+abbrev pub said : Commanded → Result
+said r = record { refusal = refusalOf (r .answer); length = lengthOf (r .answer); system = r .system }

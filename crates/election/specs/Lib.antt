@@ -1,0 +1,10 @@
+pub mod Claims
+pub mod Commands
+pub mod Handed
+pub mod Listing
+pub mod Rehearsals
+pub mod Schedule
+pub mod Settling
+pub mod Sound
+pub mod System
+pub mod Tick

@@ -1,0 +1,77 @@
+// The types of the election: messages, links, the system, and the answers. There is no function here:
+// specs/ has the definitions, proofs/ the theorems, the settling bound among them.
+use station::Station;
+
+// A LEADER under way: the tick of its sending, the tick at which it is due, and the sender's counts.
+pub struct Message {
+    pub sent: u32,
+    pub due: u32,
+    pub counts: [u16; 8],
+}
+
+// The messages under way from one station to another, oldest sending first: how many there are, and
+// their places, the used ones first.
+pub struct Link {
+    pub used: u8,
+    pub messages: [Message; 4],
+}
+
+// All stations and links (document 01's table). Station p stands at p - 1, the link from p to q at
+// 8 * (p - 1) + (q - 1).
+pub struct System {
+    // whether it is set up
+    pub ready: bool,
+    // how many stations there are
+    pub n: u8,
+    pub period: u32,
+    pub tick: u32,
+    pub stations: [Station; 8],
+    // how many messages each station has sent
+    pub sent: [u32; 8],
+    pub delays: [u8; 64],
+    pub links: [Link; 64],
+}
+
+// Why something is turned down.
+pub enum Refusal {
+    UnknownCommand,
+    MissingOperand,
+    NotSetUp,
+    SetUpTwice,
+    StationsRange,
+    PeriodRange,
+    StationRange,
+    StationUp,
+    StationDown,
+    WornOut,
+    SameStation,
+    DelayRange,
+    NoTicks,
+    PastLastTick,
+    Unsound,
+    BufferShort,
+    ScheduleLong,
+}
+
+// What a command or a listing answers: its length, or why it was turned down.
+pub enum Answer {
+    Done(usize),
+    Refused(Refusal),
+}
+
+// What a command answers, with the system.
+pub struct Commanded {
+    pub answer: Answer,
+    pub system: System,
+}
+
+// What a schedule answers, with the system: its length, or the refusal of the command at an offset.
+pub enum Ended {
+    Whole(usize),
+    Stopped { at: usize, refusal: Refusal },
+}
+
+pub struct Scheduled {
+    pub ended: Ended,
+    pub system: System,
+}
