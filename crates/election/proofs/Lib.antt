@@ -27,4 +27,5 @@ pub mod StationTick
 pub mod Steps
 pub mod Sums
 pub mod TickSound
+pub mod Tied
 pub mod Witness

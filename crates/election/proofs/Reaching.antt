@@ -8,7 +8,7 @@ use native.Mathlib.Decide.{ℕ-discrete, decLt}
 use native.Mathlib.Nat.{le-refl}
 use native.Mathlib.Omega.{arith}
 use lib.Dec.{eqb, ltb}
-use lib.ListN.{length, getD, set, replicate, List·getD-eq-default}
+use lib.ListN.{length, getD, set, replicate, List·getD-eq-default, getD-replicate}
 use lib.Seq.{getD-set-same, getD-set-other, set-out}
 use borrow.Author.Tests.{ne-eqb, eq-eqb}
 use Rattle.lists.specs.Every.{All}
@@ -32,7 +32,8 @@ use Rattle.election.specs.declared.System.{System}
 use Rattle.election.proofs.Accepting.{Accepts, accepts}
 use Rattle.election.proofs.Calm.{Sane}
 use Rattle.election.proofs.Changes.{start-sound, crash-sound, delay-sound, lose-sound}
-use Rattle.election.proofs.InitialSound.{initial-sound}
+use Rattle.election.proofs.InitialSound.{fresh-sound, initial-sound}
+use Rattle.election.proofs.KeepsSound.{perform-keeps}
 use Rattle.election.proofs.Places.{In, widen, same-place, tick-tick}
 use Rattle.election.proofs.Reached.{always, counts, Low, Reached, recount, tick-reached}
 use Rattle.election.proofs.Soundness.{Sound}
@@ -142,3 +143,64 @@ module _ (s : System) (a b : ℕ) (ia : In 8 a) (ib : In 8 b) where
       go (yes e) (yes l) = let (x, y) = same-place q p a b iq ip ia ib e in rw (e, getD-set-same (s .links) (place a b) (holding []) noLink l) (k x y)
       go (yes e) (no l) = rw (set-out (s .links) (place a b) (holding []) (omega arith)) h
       go (no ne) l = rw (getD-set-other (s .links) (place a b) (place q p) (holding []) noLink ne) h
+
+pub lose-reached : (s : System) → Reached s → (a b : ℕ) → In (s .n) a → In (s .n) b → a ≢ b → Reached (withoutMessages a b s)
+lose-reached s h a b ia ib ne =
+    record
+      { sound = lose-sound s (h .sound) a b ia ib ne
+      ; heads = h .heads
+      ; paced = h .paced
+      ; mail = λ q p iq ip d.
+          lost-elim s a b (widen (s .n) a (h .sound .n-high) ia) (widen (s .n) b (h .sound .n-high) ib) (All (Low s)) q p (widen (s .n) q (h .sound .n-high) iq) (widen (s .n) p (h .sound .n-high) ip) (h .mail q p iq ip d) (λ e f. tt)
+      }
+
+pub delay-reached : (s : System) → Reached s → (a b d : ℕ) → In (s .n) a → In (s .n) b → a ≢ b → d ≤ 64 → Reached (withDelay a b d s)
+delay-reached s h a b d ia ib ne few =
+    record { sound = delay-sound s (h .sound) a b ia ib ne d few; heads = h .heads; paced = h .paced; mail = h .mail }
+
+pub ticks-reached : (t : ℕ) (s : System) → s .tick + t ≤ 1000000 → Reached s → Reached (ticks t s)
+unfolding ticks
+ticks-reached zero s room h = h
+ticks-reached (suc t) s room h = ticks-reached t (tick s) (rw (tick-tick s) (omega arith)) (tick-reached s h (omega arith))
+
+pub initial-reached : (n period : ℕ) → 2 ≤ n → n ≤ 8 → 16 ≤ period → period ≤ 255 → Reached (initial n period)
+unfolding initial messages holding
+initial-reached n period n-low n-high p-low p-high =
+    record
+      { sound = initial-sound n period n-low n-high p-low p-high
+      ; heads = λ p ip u. absurd (true≢false (sym u ∙ down p ip))
+      ; paced = λ p ip u. absurd (true≢false (sym u ∙ down p ip))
+      ; mail = λ q p iq ip ne. rw (empty q p) tt
+      }
+  where
+    down : (p : ℕ) → In n p → getD (upTo 8 (λ k. unstarted (cond (ltb k n) (k + 1) 0))) (p - 1) noStation .up ≡ false
+    down p ip = ap (λ (x : Station). x .up) (getD-upTo 8 (λ k. unstarted (cond (ltb k n) (k + 1) 0)) (p - 1) noStation (omega (arith, ip .low, ip .high)))
+
+    empty : (q p : ℕ) → messages (getD (replicate 64 (holding [])) (place q p) noLink) ≡ []
+    empty q p = go (decLt (place q p) 64)
+      where
+        go : Dec (place q p < 64) → messages (getD (replicate 64 (holding [])) (place q p) noLink) ≡ []
+        go (yes l) = rw (getD-replicate 64 (place q p) (holding []) noLink l)
+        go (no l) = rw (List·getD-eq-default (replicate 64 (holding [])) noLink {n = place q p} (omega arith))
+
+-- what holds of a system before set up as well
+pub record Arrived (s : System) : Type 0 where
+  pub is-sound : sound s ≡ true
+  pub reached : s .ready ≡ true → Reached s
+
+performed : (c : Command) (s : System) → Accepts c s → (s .ready ≡ true → Reached s) → Reached (perform c s)
+unfolding perform
+performed (SetUp n period) s (r, a, b, c, d) h = initial-reached n period a b c d
+performed (Start p) s (r, i, d, few) h = start-reached s (h r) p i few
+performed (Crash p) s (r, i, u) h = crash-reached s (h r) p i u
+performed (Link p q d) s (r, i, j, ne, few) h = delay-reached s (h r) p q d i j ne few
+performed (Run t) s (r, l, room) h = ticks-reached t s room (h r)
+performed (Lose p q) s (r, i, j, ne) h = lose-reached s (h r) p q i j ne
+performed Report s r h = h r
+
+pub perform-arrived : (c : Command) (s : System) → firstFailed (tests s c) ≡ 0 → Arrived s → Arrived (perform c s)
+perform-arrived c s t h = record { is-sound = perform-keeps c s (h .is-sound) t; reached = λ r. performed c s (accepts c s t) (h .reached) }
+
+pub fresh-arrived : Arrived fresh
+unfolding fresh
+fresh-arrived = record { is-sound = fresh-sound; reached = λ r. absurd (true≢false (sym r)) }
