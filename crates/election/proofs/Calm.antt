@@ -50,10 +50,10 @@ module _ (n period : ℕ) (small : n ≤ 8) (S : ℕ → Bool) (C : ℕ → ℕ)
       let low : (y : ℕ) → In n y → S y ≡ true → entry k y ≤ C y = λ y iy Sy. omega (arith, entry-joined n small (x .recovered) v y iy, hv y iy Sy, h .low y iy Sy) in
       heard-elim (Sane n period S C p now) p q now v x k (omega (arith, ip .high)) (omega (arith, iq .high)) (omega (arith, h .range .high)) refl
       (λ a b.
-        record { own = own; low = low; range = iq; ahead = λ ne. omega (arith, ip .high, iq .high); slow = h .slow; on = λ ne. omega arith; off = λ e. absurd (qp e) })
+      record { own = own; low = low; range = iq; ahead = λ ne. omega (arith, ip .high, iq .high); slow = h .slow; on = λ ne. omega arith; off = λ e. absurd (qp e) })
       (λ a b. record { own = own; low = low; range = ip; ahead = λ ne. absurd (ne refl); slow = h .slow; on = λ ne. absurd (ne refl); off = λ e. refl })
       (λ a b.
-        record { own = own; low = low; range = h .range; ahead = λ ne. omega (arith, ip .high, h .range .high); slow = h .slow; on = h .on; off = h .off })
+      record { own = own; low = low; range = h .range; ahead = λ ne. omega (arith, ip .high, h .range .high); slow = h .slow; on = h .on; off = h .off })
 
   -- a timer that is due runs for another station, whose timeout has a place
   pub due-other : (now : ℕ) (x : Station) → 1 ≤ now → Sane n period S C p now x → x .timer ≡ now → x .leader ≢ p
@@ -66,12 +66,17 @@ module _ (n period : ℕ) (small : n ≤ 8) (S : ℕ → Bool) (C : ℕ → ℕ)
   expire-sane now x low h =
       expiredNow-elim (Sane n period S C p (now + 1)) p now x
       (λ e.
-        expired-elim (Sane n period S C p (now + 1)) p x (due-place now x low h e)
-        (λ t size at same.
-          record
-            { own = h .own; low = h .low; range = ip; ahead = λ ne. absurd (ne refl)
-            ; slow = λ q iq ne. omega (arith, h .slow q iq ne, raised x t at same q .0)
-            ; on = λ ne. absurd (ne refl); off = λ f. refl }))
+      expired-elim (Sane n period S C p (now + 1)) p x (due-place now x low h e)
+      (λ t size at same.
+      record {
+        own = h .own;
+        low = h .low;
+        range = ip;
+        ahead = λ ne. absurd (ne refl);
+        slow = λ q iq ne. omega (arith, h .slow q iq ne, raised x t at same q .0);
+        on = λ ne. absurd (ne refl);
+        off = λ f. refl;
+      }))
       (λ e. record { own = h .own; low = h .low; range = h .range; ahead = h .ahead; slow = h .slow; on = λ ne. omega (arith, h .on ne); off = h .off })
 
   pub slot-sane : (b now : ℕ) (x : Station) → Sane n period S C p b x → Sane n period S C p b (slottedNow period now x)
@@ -118,7 +123,7 @@ module _ (K : Stretch) (p : ℕ) (ip : In (K .n) p) (Sp : K .steady p ≡ true) 
       let own-late : p ≢ K .L → keyOf k p ≤ keyL K → ⊥ = λ ne le. omega (arith, ip .high, K .L-in .high, K .small) in
       heard-elim (λ (y : Station). Sane (K .n) (K .period) (K .steady) (K .C) p now y → Calm K p now y) p q now v x k (omega (arith, ip .high, K .small)) (omega (arith, iq .high, K .small)) (omega (arith, h .sane .range .high, K .small)) refl
       (λ a b z.
-        record { sane = z; quick = h .quick; dying = λ ne le. omega (arith, h .quick q iq qp, f .old ne (omega (arith, entry-joined (K .n) (K .small) (x .recovered) v q iq))) })
+      record { sane = z; quick = h .quick; dying = λ ne le. omega (arith, h .quick q iq qp, f .old ne (omega (arith, entry-joined (K .n) (K .small) (x .recovered) v q iq))) })
       (λ a b z. record { sane = z; quick = h .quick; dying = λ ne le. absurd (own-late ne le) })
       (λ a b z. record { sane = z; quick = h .quick; dying = λ ne le. h .dying ne (omega (arith, entry-joined (K .n) (K .small) (x .recovered) v (x .leader) (h .sane .range))) })
       (hear-sane (K .n) (K .period) (K .small) (K .steady) (K .C) p ip now q v x Sp iq qp (f .counts) (h .sane))
@@ -127,12 +132,13 @@ module _ (K : Stretch) (p : ℕ) (ip : In (K .n) p) (Sp : K .steady p ≡ true) 
   expire-calm now x low h =
       expiredNow-elim (λ (y : Station). Sane (K .n) (K .period) (K .steady) (K .C) p (now + 1) y → Calm K p (now + 1) y) p now x
       (λ e.
-        expired-elim (λ (y : Station). Sane (K .n) (K .period) (K .steady) (K .C) p (now + 1) y → Calm K p (now + 1) y) p x (due-place (K .n) (K .period) (K .small) (K .steady) (K .C) p ip now x low (h .sane) e)
-        (λ t size at same z.
-          record
-            { sane = z
-            ; quick = λ q iq ne. omega (arith, h .quick q iq ne, raised x t at same q .1)
-            ; dying = λ ne le. omega (arith, h .sane .own, ip .high, K .L-in .high, K .small) }))
+      expired-elim (λ (y : Station). Sane (K .n) (K .period) (K .steady) (K .C) p (now + 1) y → Calm K p (now + 1) y) p x (due-place (K .n) (K .period) (K .small) (K .steady) (K .C) p ip now x low (h .sane) e)
+      (λ t size at same z.
+      record {
+        sane = z;
+        quick = λ q iq ne. omega (arith, h .quick q iq ne, raised x t at same q .1);
+        dying = λ ne le. omega (arith, h .sane .own, ip .high, K .L-in .high, K .small);
+      }))
       (λ e z. record { sane = z; quick = λ q iq ne. omega (arith, h .quick q iq ne); dying = h .dying })
       (expire-sane (K .n) (K .period) (K .small) (K .steady) (K .C) p ip now x low (h .sane))
 
@@ -185,8 +191,8 @@ module _ (K : Stretch) (p now : ℕ) (ip : In (K .n) p) (Sp : K .steady p ≡ tr
       (λ a b. record { leader-L = refl; timer-at = refl })
       (λ a b. absurd (omega arith))
       (λ a b.
-        let c : x .leader ≢ K .L = λ e. let e′ : entry k (x .leader) ≡ entry k (K .L) = ap (λ z. entry k z) e in omega arith in
-        absurd (omega (arith, calm-late K p ip Sp least now x h late c, entry-joined (K .n) (K .small) (x .recovered) v (x .leader) (h .sane .range))))
+      let c : x .leader ≢ K .L = λ e. let e′ : entry k (x .leader) ≡ entry k (K .L) = ap (λ z. entry k z) e in omega arith in
+      absurd (omega (arith, calm-late K p ip Sp least now x h late c, entry-joined (K .n) (K .small) (x .recovered) v (x .leader) (h .sane .range))))
 
   -- One that trusts L and hears another goes on, with its timer.
   pub hear-other : (q t : ℕ) (v : List ℕ) (x : Station) → In (K .n) q → q ≢ K .L → Fair K now q v → Calm K p now x → Trusts K t x → Trusts K t (heard p q v now x)

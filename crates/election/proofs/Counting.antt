@@ -83,8 +83,8 @@ module _ (K : Stretch) (s : System) (h : Inv K s) (fine : Fine K s) (room : s .t
       other u pL =
           rw now-eq
           (move-pot (K .period) (K .d) (END K) (s .tick) _ _ _ _ _ _ past (deadline-lo K s h (k + 1) ip pL u)
-            (rw now-eq at (deadline-lo K (tick s) inv′ (k + 1) ip pL u))
-            (h .phases (k + 1) ip u pL) (rw (add-one (s .tick)) at (tick-move K s h fine room (omega arith) (k + 1) ip u pL)))
+          (rw now-eq at (deadline-lo K (tick s) inv′ (k + 1) ip pL u))
+          (h .phases (k + 1) ip u pL) (rw (add-one (s .tick)) at (tick-move K s h fine room (omega arith) (k + 1) ip u pL)))
 
       self : k + 1 ≡ K .L → failed t′ ≤ 0
       self e =
@@ -101,8 +101,12 @@ module _ (K : Stretch) (s : System) (h : Inv K s) (fine : Fine K s) (room : s .t
 
   pub pots-step : split K (tick s) + pots K (tick s) ≤ pots K s
   pots-step =
-      omega (arith, some-failed (K .n) (agrees K (tick s)), sum-add (K .n) (λ k. failed (agrees K (tick s) k)) (potOf K (tick s)),
-        sum-le (K .n) (λ k. failed (agrees K (tick s) k) + potOf K (tick s) k) (potOf K s) head-step)
+      omega (
+        arith,
+        some-failed (K .n) (agrees K (tick s)),
+        sum-add (K .n) (λ k. failed (agrees K (tick s) k)) (potOf K (tick s)),
+        sum-le (K .n) (λ k. failed (agrees K (tick s) k) + potOf K (tick s) k) (potOf K s) head-step,
+      )
 
 less-one : (x k T : ℕ) → x + T ≤ k * T → x ≤ (k - 1) * T
 less-one x zero T h = omega arith
@@ -112,7 +116,7 @@ pub pots-top : (K : Stretch) (s : System) → Inv K s → END K ≤ s .tick → 
 pots-top K s h past =
     less-one (pots K s) (heads K) T
     (rw (← sum-counted (K .n) T (λ k. K .steady (k + 1)))
-      (omega (arith, rw flag-L at (sum-short (K .n) (K .L - 1) (potOf K s) (λ k. cond (K .steady (k + 1)) T 0) each zero-L (omega (arith, K .L-in .low, K .L-in .high))))))
+    (omega (arith, rw flag-L at (sum-short (K .n) (K .L - 1) (potOf K s) (λ k. cond (K .steady (k + 1)) T 0) each zero-L (omega (arith, K .L-in .low, K .L-in .high))))))
   where
     T : ℕ
     T = tri (K .d - 2)
@@ -158,9 +162,13 @@ pay-tick K N s fine room h = go (decLt (s .tick) (END K)) (decLt (next s) (END K
     go : Dec (s .tick < END K) → Dec (next s < END K) → (N′ : ℕ) × Budget K N′ (tick s) × (split K (tick s) + N′ ≤ N)
     go (yes a) (yes b) =
         (N - 1, record { inv = inv′; early = λ e. omega (arith, tick-tick s, h .early a); late = λ e. omega (arith, tick-tick s) }, omega (arith, once, h .early a))
-    go (yes a) (no b) =
-        (pots K (tick s), record { inv = inv′; early = λ e. omega (arith, tick-tick s); late = λ e. omega arith }
-          , omega (arith, once, h .early a, pots-top K (tick s) inv′ (omega (arith, tick-tick s))))
-    go (no a) b =
-        (pots K (tick s), record { inv = inv′; early = λ e. omega (arith, tick-tick s); late = λ e. omega arith }
-          , omega (arith, pots-step K s (h .inv) fine room (omega arith), h .late (omega arith)))
+    go (yes a) (no b) = (
+      pots K (tick s),
+      record { inv = inv′; early = λ e. omega (arith, tick-tick s); late = λ e. omega arith },
+      omega (arith, once, h .early a, pots-top K (tick s) inv′ (omega (arith, tick-tick s))),
+    )
+    go (no a) b = (
+      pots K (tick s),
+      record { inv = inv′; early = λ e. omega (arith, tick-tick s); late = λ e. omega arith },
+      omega (arith, pots-step K s (h .inv) fine room (omega arith), h .late (omega arith)),
+    )

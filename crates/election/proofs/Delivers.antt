@@ -2,20 +2,20 @@
 use mathlib.Core.Path.{_≡_, refl, ap, _∙_}
 use mathlib.Core.Logic.{_≢_}
 use mathlib.Core.List.{List, [], _∷_}
-use mathlib.Core.Bool.{true, cond}
+use mathlib.Core.Bool.{cond}
 use Prim.Native.Nat.{ℕ, _+_, _-_, _<_, _≤_}
 use native.Mathlib.Omega.{arith}
 use lib.ListN.{length}
-use borrow.Author.Tests.{eq-eqb, ne-eqb}
+use borrow.Author.Tests.{eq-eqb}
 use Rattle.lists.specs.Fold.{each}
 use Rattle.station.specs.Rules.{heard, expired}
 use Rattle.station.specs.declared.Station.{Station}
-use Rattle.election.specs.System.{station, underway}
-use Rattle.election.specs.Tick.{next, heardLink, heardAll, expiredNow, settled}
+use Rattle.election.specs.System.{underway}
+use Rattle.election.specs.Tick.{heardLink, heardAll, expiredNow}
 use Rattle.election.specs.declared.Message.{Message}
-use Rattle.election.specs.declared.System.{System}
 use Rattle.election.proofs.Once.{each-idle, each-once}
 use Rattle.election.proofs.Places.{In}
+use Rattle.election.proofs.Steps.{expiredNow-elim}
 use Rattle.election.proofs.Witness.{around, around-underway}
 
 -- one link, with nothing on it or with one message that is due
@@ -59,14 +59,7 @@ heardAll-each n me now inbox x = refl
 -- (b) a timer that is due ends, and another does not
 module _ (me now : ℕ) (x : Station) where
   pub timer-ends : x .timer ≡ now → expiredNow me now x ≡ expired me x
-  unfolding expiredNow
-  timer-ends e = ap (λ b. cond b (expired me x) x) (eq-eqb (x .timer) now e)
+  timer-ends e = expiredNow-elim (λ y. y ≡ expired me x) me now x (λ i. refl) (λ ne. absurd (ne e))
 
   pub timer-runs : x .timer ≢ now → expiredNow me now x ≡ x
-  unfolding expiredNow
-  timer-runs ne = ap (λ b. cond b (expired me x) x) (ne-eqb (x .timer) now ne)
-
--- an up station after (a) and (b)
-pub settled-up : (s : System) (p : ℕ) → station s p .up ≡ true → settled s p ≡ expiredNow p (next s) (heardAll (s .n) p (next s) (λ q. underway s q p) (station s p))
-unfolding settled
-settled-up s p u = ap (λ b. cond b (expiredNow p (next s) (heardAll (s .n) p (next s) (λ q. underway s q p) (station s p))) (station s p)) u
+  timer-runs ne = expiredNow-elim (λ y. y ≡ x) me now x (λ e. absurd (ne e)) (λ i. refl)

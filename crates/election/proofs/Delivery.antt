@@ -56,7 +56,7 @@ heard-none me q now ms x e = rw e
 
 -- the messages of one sender
 module _ (me n period tick q : ℕ) (sender : Station) (hq : In n q) (other : q ≢ me) where
-  posted-fits : (m : Message) → Posted n period tick sender m → fitMessage me n q (m .counts) ≡ true
+  pub posted-fits : (m : Message) → Posted n period tick sender m → fitMessage me n q (m .counts) ≡ true
   posted-fits m p =
       of-message me n q (m .counts) (record { low = hq .low; high = hq .high; other = other; counts = counts-of n (m .counts) (p .counts) })
 

@@ -81,9 +81,10 @@ module _ (K : Stretch) (p now : ℕ) (ip : In (K .n) p) (Sp : K .steady p ≡ tr
     -- Hearing L starts it, whatever went before.
     hear-from-L : (v : List ℕ) (x : Station) → (K .L ≢ p) × Fair K now (K .L) v → Waits K p now w x → Heard K p now w hit (heard p (K .L) v now x)
     hear-from-L v x f h =
-        record
-          { waiting = hear-waits w (K .L) v x (K .L-in) f h
-          ; trusting = rw (← h .same) (hear-L K p now ip Sp pL least late v x (f .1) (h .calm)) }
+        record {
+          waiting = hear-waits w (K .L) v x (K .L-in) f h;
+          trusting = rw (← h .same) (hear-L K p now ip Sp pL least late v x (f .1) (h .calm));
+        }
 
     hear-again : (q : ℕ) (v : List ℕ) (x : Station) → In (K .n) q → (q ≢ p) × Fair K now q v → Heard K p now w hit x → Heard K p now w hit (heard p q v now x)
     hear-again q v x iq f h = go (ℕ-discrete q (K .L))
@@ -175,16 +176,16 @@ module _ (K : Stretch) (p now : ℕ) (low : 1 ≤ now) (ip : In (K .n) p) (Sp : 
 
     tick-hit : Due now (inbox (K .L))
         → (ticked (K .n) (K .period) p now inbox x .leader ≡ K .L) × (ticked (K .n) (K .period) p now inbox x .timer ≡ now + entry (x .timeouts) (K .L))
-          × (entry (ticked (K .n) (K .period) p now inbox x .timeouts) (K .L) ≡ entry (x .timeouts) (K .L))
+        × (entry (ticked (K .n) (K .period) p now inbox x .timeouts) (K .L) ≡ entry (x .timeouts) (K .L))
     tick-hit g =
         let r : Heard K p now (x .timeouts) (now + entry (x .timeouts) (K .L)) (heardAll (K .n) p now inbox x) =
-          all-hit K p now ip Sp least pL late (x .timeouts) inbox fair g x (record { calm = h; same = refl }) in
+        all-hit K p now ip Sp least pL late (x .timeouts) inbox fair g x (record { calm = h; same = refl }) in
         rw (slot-leader, slot-timer, slot-timeouts)
         (expiredNow-elim
-          (λ (y : Station). (y .leader ≡ K .L) × (y .timer ≡ now + entry (x .timeouts) (K .L)) × (entry (y .timeouts) (K .L) ≡ entry (x .timeouts) (K .L)))
-          p now (heardAll (K .n) p now inbox x)
-          (λ e. absurd (omega (arith, r .trusting .timer-at, slow-L)))
-          (λ e. (r .trusting .leader-L, r .trusting .timer-at, ap (λ l. entry l (K .L)) (r .waiting .same))))
+        (λ (y : Station). (y .leader ≡ K .L) × (y .timer ≡ now + entry (x .timeouts) (K .L)) × (entry (y .timeouts) (K .L) ≡ entry (x .timeouts) (K .L)))
+        p now (heardAll (K .n) p now inbox x)
+        (λ e. absurd (omega (arith, r .trusting .timer-at, slow-L)))
+        (λ e. (r .trusting .leader-L, r .trusting .timer-at, ap (λ l. entry l (K .L)) (r .waiting .same))))
 
     module _ (END dl dl′ : ℕ) where
       -- The move that the station makes as y, with the tests' outcomes.
@@ -195,7 +196,7 @@ module _ (K : Stretch) (p now : ℕ) (low : 1 ≤ now) (ip : In (K .n) p) (Sp : 
       move-hit g (inr e) = soon e
       move-hit g (inl e) =
           let r : (ticked (K .n) (K .period) p now inbox x .leader ≡ K .L) × (ticked (K .n) (K .period) p now inbox x .timer ≡ now + entry (x .timeouts) (K .L))
-                × (entry (ticked (K .n) (K .period) p now inbox x .timeouts) (K .L) ≡ entry (x .timeouts) (K .L)) = tick-hit g in
+          × (entry (ticked (K .n) (K .period) p now inbox x .timeouts) (K .L) ≡ entry (x .timeouts) (K .L)) = tick-hit g in
           rw (eq-eqb _ _ (r .0)) (hears (omega (arith, slow-L)) (omega (arith, r .1, slow-L)) (omega (arith, r .2)) e)
 
       pub move-quiet : All (λ (m : Message). m .due ≢ now) (inbox (K .L)) → dl′ ≤ dl → MoveTo (ticked (K .n) (K .period) p now inbox x)
@@ -210,24 +211,24 @@ module _ (K : Stretch) (p now : ℕ) (low : 1 ≤ now) (ip : In (K .n) p) (Sp : 
           go : Dec (x .leader ≡ K .L) → MoveTo (expiredNow p now z)
           go (yes e) =
               let r : Heard K p now (x .timeouts) (x .timer) (heardAll (K .n) p now inbox x) =
-                all-heard K p now ip Sp least pL late (x .timeouts) inbox fair none (x .timer) x (record { waiting = record { calm = h; same = refl }; trusting = record { leader-L = e; timer-at = refl } }) in
+              all-heard K p now ip Sp least pL late (x .timeouts) inbox fair none (x .timer) x (record { waiting = record { calm = h; same = refl }; trusting = record { leader-L = e; timer-at = refl } }) in
               expiredNow-elim MoveTo p now z
               (λ f.
-                expired-elim MoveTo p z (place (r .waiting .calm) f)
-                (λ t size at same.
-                  let a : entry t (K .L) ≡ entry t (z .leader) = ap (λ q. entry t q) (sym (r .trusting .leader-L)) in
-                  let b : entry (z .timeouts) (z .leader) ≡ entry (z .timeouts) (K .L) = ap (λ q. entry (z .timeouts) q) (r .trusting .leader-L) in
-                  let c : entry (z .timeouts) (K .L) ≡ entry (x .timeouts) (K .L) = ap (λ l. entry l (K .L)) (r .waiting .same) in
-                  rw (eq-eqb _ _ e, ne-eqb p (K .L) pL) (ends (sym (r .trusting .timer-at) ∙ f) (omega (arith, slow-L)) le)))
+              expired-elim MoveTo p z (place (r .waiting .calm) f)
+              (λ t size at same.
+              let a : entry t (K .L) ≡ entry t (z .leader) = ap (λ q. entry t q) (sym (r .trusting .leader-L)) in
+              let b : entry (z .timeouts) (z .leader) ≡ entry (z .timeouts) (K .L) = ap (λ q. entry (z .timeouts) q) (r .trusting .leader-L) in
+              let c : entry (z .timeouts) (K .L) ≡ entry (x .timeouts) (K .L) = ap (λ l. entry l (K .L)) (r .waiting .same) in
+              rw (eq-eqb _ _ e, ne-eqb p (K .L) pL) (ends (sym (r .trusting .timer-at) ∙ f) (omega (arith, slow-L)) le)))
               (λ f. rw (eq-eqb _ _ e, eq-eqb _ _ (r .trusting .leader-L)) (runs (r .trusting .timer-at) (ap (λ l. entry l (K .L) - K .period) (r .waiting .same)) le))
           go (no ne) =
               let r : Lost K p now (x .timeouts) (heardAll (K .n) p now inbox x) =
-                all-lost K p now ip Sp least pL late (x .timeouts) inbox fair none x (record { waiting = record { calm = h; same = refl }; not-L = ne }) in
+              all-lost K p now ip Sp least pL late (x .timeouts) inbox fair none x (record { waiting = record { calm = h; same = refl }; not-L = ne }) in
               expiredNow-elim MoveTo p now z
               (λ f.
-                expired-elim MoveTo p z (place (r .waiting .calm) f)
-                (λ t size at same.
-                  let d : K .L - 1 ≢ z .leader - 1 = λ i. r .not-L (let j : z .leader ≡ K .L = omega (arith, K .L-in .low, r .waiting .calm .sane .range .low) in j) in
-                  let c : entry (z .timeouts) (K .L) ≡ entry (x .timeouts) (K .L) = ap (λ l. entry l (K .L)) (r .waiting .same) in
-                  rw (ne-eqb _ _ ne, ne-eqb p (K .L) pL) (waits (omega (arith, same (K .L - 1) d)) le)))
+              expired-elim MoveTo p z (place (r .waiting .calm) f)
+              (λ t size at same.
+              let d : K .L - 1 ≢ z .leader - 1 = λ i. r .not-L (let j : z .leader ≡ K .L = omega (arith, K .L-in .low, r .waiting .calm .sane .range .low) in j) in
+              let c : entry (z .timeouts) (K .L) ≡ entry (x .timeouts) (K .L) = ap (λ l. entry l (K .L)) (r .waiting .same) in
+              rw (ne-eqb _ _ ne, ne-eqb p (K .L) pL) (waits (omega (arith, same (K .L - 1) d)) le)))
               (λ f. rw (ne-eqb _ _ ne, ne-eqb _ _ (r .not-L)) (waits (ap (λ l. entry l (K .L) - K .period) (r .waiting .same)) le))

@@ -22,9 +22,10 @@ use Rattle.election.specs.Tick.{heardLink, heardAll, expiredNow, settled
 use Rattle.election.specs.declared.Message.{Message}
 use Rattle.election.specs.declared.System.{System}
 use Rattle.election.proofs.Carries.{Underway, Mail, noMail, also, zeros-in, carries-one, carries-two, no-mail, also-mail, also-own, also-others}
-use Rattle.election.proofs.Delivers.{hears-none, hears-one, hears-nobody, hears-only, heardAll-each, timer-ends, timer-runs, settled-up}
+use Rattle.election.proofs.Delivers.{hears-none, hears-one, hears-nobody, hears-only, heardAll-each, timer-ends, timer-runs}
 use Rattle.election.proofs.Earlier.{earlier-fits, leader-other, leader-heard, earlier, unexpired-fits, leader-expired}
 use Rattle.election.proofs.Places.{In, is-link}
+use Rattle.election.proofs.Steps.{settled-up}
 use Rattle.election.proofs.Witness.{around, around-station, around-underway, around-finds, around-runs, inside-eight}
 
 pub start-handed : (me n period tick : ℕ) (x : Station) → fitStart me n period tick x ≡ true → Finds me n period tick x

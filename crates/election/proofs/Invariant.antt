@@ -133,9 +133,9 @@ module _ (K : Stretch) (s : System) (h : Inv K s) where
   sent-mail q p iq =
       sent-all (Mail K (next s) q) s q p
       (λ e d.
-        let u : station s q .up ≡ true = sending-of s q e .0 in
-        let c : Sane (s .n) (s .period) always (counts s) q (next s + 1) (settled s q) = settled-sane s (h .reached) q (in-s q iq) u in
-        record { ahead = omega arith; low = λ x ix Sx. omega (arith, c .low x (in-s x ix) refl, h .const x ix Sx); old = λ ne le. absurd (after-L q iq u (settled s q .recovered) (c .own) ne le) })
+      let u : station s q .up ≡ true = sending-of s q e .0 in
+      let c : Sane (s .n) (s .period) always (counts s) q (next s + 1) (settled s q) = settled-sane s (h .reached) q (in-s q iq) u in
+      record { ahead = omega arith; low = λ x ix Sx. omega (arith, c .low x (in-s x ix) refl, h .const x ix Sx); old = λ ne le. absurd (after-L q iq u (settled s q .recovered) (c .own) ne le) })
 
   -- The next send chance of L after the tick.
   slot-next : (station s (K .L) .slot ≡ next s → station (tick s) (K .L) .slot ≡ next s + K .period)
@@ -144,9 +144,9 @@ module _ (K : Stretch) (s : System) (h : Inv K s) where
       let x : settled s (K .L) .slot ≡ station s (K .L) .slot = settled-unchanged s (K .L) .slot in
       rw (station-next (K .L) (K .L-in))
       (slottedNow-elim (λ (y : Station). (station s (K .L) .slot ≡ next s → y .slot ≡ next s + K .period) × (station s (K .L) .slot ≢ next s → y .slot ≡ station s (K .L) .slot))
-        (K .period) (next s) (settled s (K .L))
-        (λ e. ((λ f. refl), (λ f. absurd (f (sym x ∙ e)))))
-        (λ e. ((λ f. absurd (e (x ∙ f))), (λ f. x))))
+      (K .period) (next s) (settled s (K .L))
+      (λ e. ((λ f. refl), (λ f. absurd (f (sym x ∙ e)))))
+      (λ e. ((λ f. absurd (e (x ∙ f))), (λ f. x))))
 
   next-hi′ : station (tick s) (K .L) .slot ≤ max (K .since + K .W) (next s + K .period)
   next-hi′ = go (ℕ-discrete (station s (K .L) .slot) (next s))
@@ -218,8 +218,8 @@ module _ (K : Stretch) (s : System) (h : Inv K s) where
 
         go : Due (next s) (underway s (K .L) p) ⊎ All (λ (m : Message). m .due ≢ next s) (underway s (K .L) p)
             → Move (K .period) (K .d) (END K) (next s) (station s p .timer) (spare K (station s p)) (deadline K s p)
-              (ticked (K .n) (K .period) p (next s) (λ q. underway s q p) (station s p) .timer) (spare K (ticked (K .n) (K .period) p (next s) (λ q. underway s q p) (station s p))) dl′
-              (eqb (station s p .leader) (K .L)) (eqb (ticked (K .n) (K .period) p (next s) (λ q. underway s q p) (station s p) .leader) (K .L))
+            (ticked (K .n) (K .period) p (next s) (λ q. underway s q p) (station s p) .timer) (spare K (ticked (K .n) (K .period) p (next s) (λ q. underway s q p) (station s p))) dl′
+            (eqb (station s p .leader) (K .L)) (eqb (ticked (K .n) (K .period) p (next s) (λ q. underway s q p) (station s p) .leader) (K .L))
         go (inl g) =
             move-hit K p (next s) (omega arith) ip u (h .least p ip u) (λ q. underway s q p) (fair p ip u) pL late (station s p) (h .calm p ip u) (END K) (deadline K s p) dl′ g
             (far (decLe (station s (K .L) .slot) (K .since + K .W)))
@@ -245,23 +245,23 @@ module _ (K : Stretch) (s : System) (h : Inv K s) where
     mail′ q p iq ip ne u =
         rw (underway-next q p iq ip ne)
         (all-append (Mail K (next s) q) (later (next s) (underway s q p)) (sent s q p)
-          (later-all (Mail K (s .tick) q) (Mail K (next s) q) (next s) (underway s q p) (λ m d f. record { ahead = omega (arith, f .ahead); low = f .low; old = f .old }) (h .mail q p iq ip ne u))
-          (sent-mail q p iq))
+        (later-all (Mail K (s .tick) q) (Mail K (next s) q) (next s) (underway s q p) (λ m d f. record { ahead = omega (arith, f .ahead); low = f .low; old = f .old }) (h .mail q p iq ip ne u))
+        (sent-mail q p iq))
 
     pub tick-inv : Inv K (tick s)
     unfolding tick
     tick-inv =
-        record
-          { same-n = h .same-n
-          ; same-period = h .same-period
-          ; reached = tick-reached s (h .reached) room
-          ; ups = λ p ip u. tick-up s n-high p (in-s p ip) ∙ h .ups p ip u
-          ; const = λ x ix Sx. tick-count s n-high x (in-s x ix) ∙ h .const x ix Sx
-          ; surplus = λ p ip u ns. omega (arith, h .surplus p ip (sym (tick-up s n-high p (in-s p ip)) ∙ u) ns, tick-count s n-high p (in-s p ip))
-          ; least = h .least
-          ; calm = calm′
-          ; mail = mail′
-          ; next-lo = next-lo′
-          ; next-hi = next-hi′
-          ; phases = phase′
-          }
+        record {
+          same-n = h .same-n;
+          same-period = h .same-period;
+          reached = tick-reached s (h .reached) room;
+          ups = λ p ip u. tick-up s n-high p (in-s p ip) ∙ h .ups p ip u;
+          const = λ x ix Sx. tick-count s n-high x (in-s x ix) ∙ h .const x ix Sx;
+          surplus = λ p ip u ns. omega (arith, h .surplus p ip (sym (tick-up s n-high p (in-s p ip)) ∙ u) ns, tick-count s n-high p (in-s p ip));
+          least = h .least;
+          calm = calm′;
+          mail = mail′;
+          next-lo = next-lo′;
+          next-hi = next-hi′;
+          phases = phase′;
+        }

@@ -2,10 +2,10 @@ pub mod Accepting
 pub mod Calm
 pub mod Carries
 pub mod Changes
-pub mod Clauses
 pub mod Computed
 pub mod Counting
 pub mod Delivers
+pub mod Demand
 pub mod Delivery
 pub mod Earlier
 pub mod Exact
@@ -21,6 +21,7 @@ pub mod Places
 pub mod Potential
 pub mod Reached
 pub mod Reaching
+pub mod Settled
 pub mod Soundness
 pub mod Spaced
 pub mod StationTick
@@ -28,4 +29,5 @@ pub mod Steps
 pub mod Sums
 pub mod TickSound
 pub mod Tied
+pub mod Walk
 pub mod Witness

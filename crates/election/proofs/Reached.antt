@@ -65,7 +65,7 @@ module _ (s : System) (h : Sound s) where
   underway-self p ip =
       let w : In 8 p = widen (s .n) p (h .n-high) ip in
       let e : emptyPlace (getD (s .delays) (place p p) 0) (getD (s .links) (place p p) noLink) ≡ true =
-        h .no-link (place p p) (place-in p p w w) (rw (from-place p p w w, to-place p p w w) (no-self (s .n) p)) in
+      h .no-link (place p p) (place-in p p w w) (rw (from-place p p w w, to-place p p w w) (no-self (s .n) p)) in
       let (a, b, c) = three (eqb (getD (s .delays) (place p p) 0) 0) (eqb (getD (s .links) (place p p) noLink .used) 0) _ e in
       rw (eqb-true (getD (s .links) (place p p) noLink .used) 0 b)
 
@@ -129,9 +129,9 @@ module _ (s : System) (h : Reached s) where
       rw (settled-up s p u)
       (expire-sane (s .n) (s .period) small always (counts s) p ip (next s) _ (omega arith)
       (all-keeps (Sane (s .n) (s .period) always (counts s) p (next s)) (λ q v. (q ≢ p) × ((x : ℕ) → In (s .n) x → entry v x ≤ counts s x)) (s .n) p (next s) (λ q. underway s q p)
-        (λ q v y iq f. hear-sane (s .n) (s .period) small always (counts s) p ip (next s) q v y refl iq (f .0) (λ x ix t. f .1 x ix))
-        (λ q iq. all-map (λ m. (q ≢ p) × Low s m) _ (λ m f e. f) (underway s q p) (inbox-all s (h .sound) (λ q. Low s) p ip (λ q iq ne. h .mail q p iq ip ne) q iq))
-        (station s p) (h .heads p ip u)))
+      (λ q v y iq f. hear-sane (s .n) (s .period) small always (counts s) p ip (next s) q v y refl iq (f .0) (λ x ix t. f .1 x ix))
+      (λ q iq. all-map (λ m. (q ≢ p) × Low s m) _ (λ m f e. f) (underway s q p) (inbox-all s (h .sound) (λ q. Low s) p ip (λ q iq ne. h .mail q p iq ip ne) q iq))
+      (station s p) (h .heads p ip u)))
 
   heads′ : (p : ℕ) → In (s .n) p → station (tick s) p .up ≡ true → Sane (s .n) (s .period) always (counts (tick s)) p (next s + 1) (station (tick s) p)
   heads′ p ip u =
@@ -151,8 +151,8 @@ module _ (s : System) (h : Reached s) where
       rw (tick-underway s small q p iq ip ne (after-few s (h .sound) more-ticks q p iq ip ne))
       (all-map (Low s) _ (λ m f x ix. omega (arith, f x ix, tick-count s small x ix)) (underwayAfter s q p)
       (all-append (Low s) (later (next s) (underway s q p)) (sent s q p)
-        (later-all (Low s) (Low s) (next s) (underway s q p) (λ m d f. f) (h .mail q p iq ip ne))
-        (sent-all (Low s) s q p (λ e d x ix. settled-sane q iq (sending-of s q e .0) .low x ix refl))))
+      (later-all (Low s) (Low s) (next s) (underway s q p) (λ m d f. f) (h .mail q p iq ip ne))
+      (sent-all (Low s) s q p (λ e d x ix. settled-sane q iq (sending-of s q e .0) .low x ix refl))))
 
   pub tick-reached : s .tick < 1000000 → Reached (tick s)
   unfolding tick

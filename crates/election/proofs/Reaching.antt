@@ -62,12 +62,12 @@ module _ (s : System) (f : Sound s) (p : ℕ) (ip : In (s .n) p) (x : Station) w
       → (x .up ≡ true → x .recovering ≡ false → x .slot ≤ s .tick + s .period)
       → Reached (withStation p x s)
   changed-reached h snd rises sane paced =
-      record
-        { sound = snd
-        ; heads = λ r ir. go-heads r ir (ℕ-discrete r p)
-        ; paced = λ r ir. go-paced r ir (ℕ-discrete r p)
-        ; mail = λ q r iq ir ne. all-map (Low s) _ (λ m g y iy. low m g y iy (ℕ-discrete y p)) (underway s q r) (h .mail q r iq ir ne)
-        }
+      record {
+        sound = snd;
+        heads = λ r ir. go-heads r ir (ℕ-discrete r p);
+        paced = λ r ir. go-paced r ir (ℕ-discrete r p);
+        mail = λ q r iq ir ne. all-map (Low s) _ (λ m g y iy. low m g y iy (ℕ-discrete y p)) (underway s q r) (h .mail q r iq ir ne);
+      }
     where
       s′ : System
       s′ = withStation p x s
@@ -98,18 +98,18 @@ start-sane : (n period tick : ℕ) → n ≤ 8 → (p : ℕ) → In n p → (x :
 start-sane n period tick small p ip x st C e =
     started-elim (Sane n period always C p (tick + 1)) p n period tick x (ip .low) (omega (arith, ip .high))
     (λ v t sv sz own zeros times.
-      let waits : (q : ℕ) → In n q → q ≢ p → entry t q ≡ period + (x .incarnation + 1) =
-        λ q iq ne. times (q - 1) (omega (arith, iq .low, iq .high)) ∙ ap (λ b. cond b (period + (x .incarnation + 1)) 0) (other-of p n q (iq .low) (iq .high) ne) in
-      let none : (q : ℕ) → In n q → q ≢ p → entry v q ≡ 0 = λ q iq ne. zeros (q - 1) (λ i. ne (let j : q ≡ p = omega (arith, iq .low, ip .low) in j)) in
-      record
-        { own = own ∙ sym e
-        ; low = λ q iq u. low v C own e none q iq (ℕ-discrete q p)
-        ; range = st
-        ; ahead = λ ne. omega (arith, none (x .stable) st ne, st .high, ip .low)
-        ; slow = λ q iq ne. omega (arith, waits q iq ne)
-        ; on = λ ne. rw (ne-eqb (x .stable) p ne) (omega (arith, waits (x .stable) st ne))
-        ; off = λ i. rw (eq-eqb (x .stable) p i)
-        })
+    let waits : (q : ℕ) → In n q → q ≢ p → entry t q ≡ period + (x .incarnation + 1) =
+    λ q iq ne. times (q - 1) (omega (arith, iq .low, iq .high)) ∙ ap (λ b. cond b (period + (x .incarnation + 1)) 0) (other-of p n q (iq .low) (iq .high) ne) in
+    let none : (q : ℕ) → In n q → q ≢ p → entry v q ≡ 0 = λ q iq ne. zeros (q - 1) (λ i. ne (let j : q ≡ p = omega (arith, iq .low, ip .low) in j)) in
+    record {
+      own = own ∙ sym e;
+      low = λ q iq u. low v C own e none q iq (ℕ-discrete q p);
+      range = st;
+      ahead = λ ne. omega (arith, none (x .stable) st ne, st .high, ip .low);
+      slow = λ q iq ne. omega (arith, waits q iq ne);
+      on = λ ne. rw (ne-eqb (x .stable) p ne) (omega (arith, waits (x .stable) st ne));
+      off = λ i. rw (eq-eqb (x .stable) p i);
+    })
   where
     low : (v : List ℕ) (C : ℕ → ℕ) → entry v p ≡ x .incarnation + 1 → C p ≡ x .incarnation + 1 → ((q : ℕ) → In n q → q ≢ p → entry v q ≡ 0) → (q : ℕ) → In n q → Dec (q ≡ p) → entry v q ≤ C q
     low v C own e none q iq (yes i) = rw i (omega (arith, own, e))
@@ -120,7 +120,7 @@ start-reached s h p ip few =
     let k = fit-ranges p (s .n) (s .period) (s .tick) (station s p) (h .sound .fits p ip) .1 in
     let st : In (s .n) (station s p .stable) = record { low = k .low; high = k .high } in
     let rises : started p (s .n) (s .period) (s .tick) (station s p) .incarnation ≡ station s p .incarnation + 1 =
-      started-elim (λ y. y .incarnation ≡ station s p .incarnation + 1) p (s .n) (s .period) (s .tick) (station s p) (ip .low) (omega (arith, ip .high, h .sound .n-high)) (λ v t a b c d e. refl) in
+    started-elim (λ y. y .incarnation ≡ station s p .incarnation + 1) p (s .n) (s .period) (s .tick) (station s p) (ip .low) (omega (arith, ip .high, h .sound .n-high)) (λ v t a b c d e. refl) in
     changed-reached s (h .sound) p ip (started p (s .n) (s .period) (s .tick) (station s p)) h (start-sound s (h .sound) p ip few) (omega (arith, rises))
     (λ u C e. start-sane (s .n) (s .period) (s .tick) (h .sound .n-high) p ip (station s p) st C (e ∙ rises))
     (λ u w. absurd (true≢false (sym (started-elim (λ y. y .recovering ≡ true) p (s .n) (s .period) (s .tick) (station s p) (ip .low) (omega (arith, ip .high, h .sound .n-high)) (λ v t a b c d e. refl)) ∙ w)))
@@ -146,13 +146,13 @@ module _ (s : System) (a b : ℕ) (ia : In 8 a) (ib : In 8 b) where
 
 pub lose-reached : (s : System) → Reached s → (a b : ℕ) → In (s .n) a → In (s .n) b → a ≢ b → Reached (withoutMessages a b s)
 lose-reached s h a b ia ib ne =
-    record
-      { sound = lose-sound s (h .sound) a b ia ib ne
-      ; heads = h .heads
-      ; paced = h .paced
-      ; mail = λ q p iq ip d.
-          lost-elim s a b (widen (s .n) a (h .sound .n-high) ia) (widen (s .n) b (h .sound .n-high) ib) (All (Low s)) q p (widen (s .n) q (h .sound .n-high) iq) (widen (s .n) p (h .sound .n-high) ip) (h .mail q p iq ip d) (λ e f. tt)
-      }
+    record {
+      sound = lose-sound s (h .sound) a b ia ib ne;
+      heads = h .heads;
+      paced = h .paced;
+      mail = λ q p iq ip d.
+          lost-elim s a b (widen (s .n) a (h .sound .n-high) ia) (widen (s .n) b (h .sound .n-high) ib) (All (Low s)) q p (widen (s .n) q (h .sound .n-high) iq) (widen (s .n) p (h .sound .n-high) ip) (h .mail q p iq ip d) (λ e f. tt);
+    }
 
 pub delay-reached : (s : System) → Reached s → (a b d : ℕ) → In (s .n) a → In (s .n) b → a ≢ b → d ≤ 64 → Reached (withDelay a b d s)
 delay-reached s h a b d ia ib ne few =
@@ -166,12 +166,12 @@ ticks-reached (suc t) s room h = ticks-reached t (tick s) (rw (tick-tick s) (ome
 pub initial-reached : (n period : ℕ) → 2 ≤ n → n ≤ 8 → 16 ≤ period → period ≤ 255 → Reached (initial n period)
 unfolding initial messages holding
 initial-reached n period n-low n-high p-low p-high =
-    record
-      { sound = initial-sound n period n-low n-high p-low p-high
-      ; heads = λ p ip u. absurd (true≢false (sym u ∙ down p ip))
-      ; paced = λ p ip u. absurd (true≢false (sym u ∙ down p ip))
-      ; mail = λ q p iq ip ne. rw (empty q p) tt
-      }
+    record {
+      sound = initial-sound n period n-low n-high p-low p-high;
+      heads = λ p ip u. absurd (true≢false (sym u ∙ down p ip));
+      paced = λ p ip u. absurd (true≢false (sym u ∙ down p ip));
+      mail = λ q p iq ip ne. rw (empty q p) tt;
+    }
   where
     down : (p : ℕ) → In n p → getD (upTo 8 (λ k. unstarted (cond (ltb k n) (k + 1) 0))) (p - 1) noStation .up ≡ false
     down p ip = ap (λ (x : Station). x .up) (getD-upTo 8 (λ k. unstarted (cond (ltb k n) (k + 1) 0)) (p - 1) noStation (omega (arith, ip .low, ip .high)))

@@ -8,6 +8,7 @@ use native.Mathlib.Omega.{arith}
 use lib.ListN.{length, getD, take}
 use lib.Dec.{eqb}
 use borrow.Author.Tests.{eqb-false}
+use Rattle.lists.specs.Every.{All}
 use Rattle.election.specs.System.{noMessage}
 use Rattle.election.specs.Tick.{later}
 use Rattle.election.specs.declared.Message.{Message}
@@ -94,3 +95,14 @@ module _ {P : Message → Type 0} {period : ℕ} where
       (λ k h. p (suc k) (omega arith))
       (λ k h. a (suc k) (omega arith))
       (λ h. a 0 (omega arith)))
+
+  -- a message with older ones before it
+  pub spaced-here : (low : ℕ) (older : List Message) (m : Message) (younger : List Message) → Spaced P period low (older ++ (m ∷ younger)) → (low ≤ m .sent) × P m
+  spaced-here low [] m younger (more l p r) = (l, p)
+  spaced-here low (o ∷ older) m younger (more l p r) = let (h, here) = spaced-here (o .sent + period) older m younger r in (omega arith, here)
+
+  -- and each of those, sent at least a period earlier
+  pub spaced-older : (low : ℕ) (older : List Message) (m : Message) (younger : List Message) → Spaced P period low (older ++ (m ∷ younger)) → All (λ (o : Message). P o × (o .sent + period ≤ m .sent)) older
+  spaced-older low [] m younger r = tt
+  spaced-older low (o ∷ older) m younger (more l p r) =
+      ((p, spaced-here (o .sent + period) older m younger r .0), spaced-older (o .sent + period) older m younger r)

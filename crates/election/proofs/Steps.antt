@@ -83,7 +83,7 @@ module _ (s : System) (p : ℕ) where
   settled-unchanged =
       cond-elim (Unchanged (station s p)) (station s p .up)
       (λ e.
-        let x : Station = heardAll (s .n) p (next s) (λ q. underway s q p) (station s p) in
-        let h : Unchanged (station s p) x = heardAll-unchanged (s .n) p (next s) (λ q. underway s q p) (station s p) in
-        expiredNow-elim (Unchanged (station s p)) p (next s) x (λ f. then-unchanged (station s p) x (expired p x) h (expired-unchanged p x)) (λ f. h))
+      let x : Station = heardAll (s .n) p (next s) (λ q. underway s q p) (station s p) in
+      let h : Unchanged (station s p) x = heardAll-unchanged (s .n) p (next s) (λ q. underway s q p) (station s p) in
+      expiredNow-elim (Unchanged (station s p)) p (next s) x (λ f. then-unchanged (station s p) x (expired p x) h (expired-unchanged p x)) (λ f. h))
       (λ e. unchanged (station s p))

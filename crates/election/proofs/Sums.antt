@@ -47,6 +47,12 @@ sum-counted (suc n) T t = go (t n) (sum-counted n T t)
     go true e = omega (arith, e)
     go false e = omega (arith, e)
 
+-- two tests that say the same
+pub all-same : (n : ℕ) (t u : ℕ → Bool) → ((k : ℕ) → k < n → t k ≡ u k) → allTo n t ≡ allTo n u
+unfolding allTo
+all-same zero t u h = refl
+all-same (suc n) t u h = rw (all-same n t u (λ k l. h k (omega arith)), h n (omega arith))
+
 -- 1 if a test fails
 abbrev pub failed : Bool → ℕ
 failed b = cond b 0 1

@@ -114,15 +114,17 @@ step (Start p) s r h (r′, ip, d, few) x ix =
     let y : Station = started p (s .n) (s .period) (s .tick) (station s p) in
     let hp : p ≤ 8 = omega (arith, ip .high, h .sound .n-high) in
     changed-step (Start p) s h p ip y x ix
-    (λ e.
-      ( started-elim (λ z. z .incarnation ≡ cond (eqb p x) (suc (counts s x)) (counts s x)) p (s .n) (s .period) (s .tick) (station s p) (ip .low) hp (λ v t i j k l m. rw (e, eq-eqb p p refl) (omega arith))
-      , started-elim (λ z. z .up ≡ cond (eqb p x) true (station s x .up)) p (s .n) (s .period) (s .tick) (station s p) (ip .low) hp (λ v t i j k l m. rw (e, eq-eqb p p refl))))
+    (λ e. (
+      started-elim (λ z. z .incarnation ≡ cond (eqb p x) (suc (counts s x)) (counts s x)) p (s .n) (s .period) (s .tick) (station s p) (ip .low) hp (λ v t i j k l m. rw (e, eq-eqb p p refl) (omega arith)),
+      started-elim (λ z. z .up ≡ cond (eqb p x) true (station s x .up)) p (s .n) (s .period) (s .tick) (station s p) (ip .low) hp (λ v t i j k l m. rw (e, eq-eqb p p refl)),
+    ))
     (λ ne. (rw (ne-eqb p x (λ i. ne (sym i))), rw (ne-eqb p x (λ i. ne (sym i)))))
 step (Crash p) s r h (r′, ip, u) x ix =
     changed-step (Crash p) s h p ip (crashed (station s p)) x ix
-    (λ e.
-      ( crashed-elim (λ z. z .incarnation ≡ counts s x) (station s p) (rw e)
-      , crashed-elim (λ z. z .up ≡ cond (eqb p x) false (station s x .up)) (station s p) (rw (e, eq-eqb p p refl))))
+    (λ e. (
+      crashed-elim (λ z. z .incarnation ≡ counts s x) (station s p) (rw e),
+      crashed-elim (λ z. z .up ≡ cond (eqb p x) false (station s x .up)) (station s p) (rw (e, eq-eqb p p refl)),
+    ))
     (λ ne. (refl, rw (ne-eqb p x (λ i. ne (sym i)))))
 step (Link p q d) s r h a x ix = record { count = refl; up = refl }
 step (Run t) s r h (r′, l, room) x ix = ticks-step t s h room x ix
@@ -163,12 +165,12 @@ tied (c ∷ cs) s r h (t, a) =
     let k : Accepts c s = accepts c s t in
     let e : perform c s .n ≡ s .n = n-after c s r k in
     let rest : Tied cs (perform c s) (reached cs (perform c s)) = tied cs (perform c s) (ready-after c s r k) (perform-arrived c s t h) a in
-    record
-      { same-n = rest .same-n ∙ e
-      ; counted = λ x ix.
+    record {
+      same-n = rest .same-n ∙ e;
+      counted = λ x ix.
           let one : Step c x s (perform c s) = step c s r (h .reached r) k x ix in
-          rest .counted x (rw e ix) ∙ ap (λ (z : ℕ). z + starts x cs) (one .count) ∙ starts-more x c cs (counts s x)
-      ; latest = λ x ix.
+          rest .counted x (rw e ix) ∙ ap (λ (z : ℕ). z + starts x cs) (one .count) ∙ starts-more x c cs (counts s x);
+      latest = λ x ix.
           let one : Step c x s (perform c s) = step c s r (h .reached r) k x ix in
-          rest .latest x (rw e ix) ∙ ap (λ z. isUp z x cs) (one .up) ∙ up-more x c cs (station s x .up)
-      }
+          rest .latest x (rw e ix) ∙ ap (λ z. isUp z x cs) (one .up) ∙ up-more x c cs (station s x .up);
+    }

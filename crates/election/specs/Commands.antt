@@ -80,42 +80,42 @@ refusal s bytes = cond (sound s) (ruling s bytes) 15
 -- the system with another station p, delay or link from p to q
 abbrev pub withStation : ℕ → Station → System → System
 withStation p x s =
-    record
-      { ready = s .ready
-      ; n = s .n
-      ; period = s .period
-      ; tick = s .tick
-      ; stations = set (s .stations) (p - 1) x
-      ; sent = s .sent
-      ; delays = s .delays
-      ; links = s .links
-      }
+    record {
+      ready = s .ready;
+      n = s .n;
+      period = s .period;
+      tick = s .tick;
+      stations = set (s .stations) (p - 1) x;
+      sent = s .sent;
+      delays = s .delays;
+      links = s .links;
+    }
 
 abbrev pub withDelay : ℕ → ℕ → ℕ → System → System
 withDelay p q d s =
-    record
-      { ready = s .ready
-      ; n = s .n
-      ; period = s .period
-      ; tick = s .tick
-      ; stations = s .stations
-      ; sent = s .sent
-      ; delays = set (s .delays) (place p q) d
-      ; links = s .links
-      }
+    record {
+      ready = s .ready;
+      n = s .n;
+      period = s .period;
+      tick = s .tick;
+      stations = s .stations;
+      sent = s .sent;
+      delays = set (s .delays) (place p q) d;
+      links = s .links;
+    }
 
 abbrev pub withoutMessages : ℕ → ℕ → System → System
 withoutMessages p q s =
-    record
-      { ready = s .ready
-      ; n = s .n
-      ; period = s .period
-      ; tick = s .tick
-      ; stations = s .stations
-      ; sent = s .sent
-      ; delays = s .delays
-      ; links = set (s .links) (place p q) (holding [])
-      }
+    record {
+      ready = s .ready;
+      n = s .n;
+      period = s .period;
+      tick = s .tick;
+      stations = s .stations;
+      sent = s .sent;
+      delays = s .delays;
+      links = set (s .links) (place p q) (holding []);
+    }
 
 -- what an accepted command does
 unfoldable pub perform : Command → System → System
@@ -136,11 +136,11 @@ pub record Result : Type 0 where
 -- refused, the system comes back unchanged and the length is 0
 unfoldable pub command : System → List ℕ → Result
 command s bytes =
-    record
-      { refusal = refusal s bytes
-      ; length = cond (eqb (refusal s bytes) 0) (1 + operands (decode bytes)) 0
-      ; system = cond (eqb (refusal s bytes) 0) (perform (decode bytes) s) s
-      }
+    record {
+      refusal = refusal s bytes;
+      length = cond (eqb (refusal s bytes) 0) (1 + operands (decode bytes)) 0;
+      system = cond (eqb (refusal s bytes) 0) (perform (decode bytes) s) s;
+    }
 
 -- document 01's number of a refusal
 abbrev pub numberOf : Refusal → ℕ

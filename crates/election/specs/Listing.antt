@@ -127,11 +127,11 @@ pub record Listed : Type 0 where
 unfoldable pub listed : System → List ℕ → Listed
 listed s buffer =
     let r : ℕ = firstFailed ((sound s, 15) ∷ (s .ready, 3) ∷ (leb (length (listing s)) (length buffer), 16) ∷ []) in
-    record
-      { refusal = r
-      ; written = cond (eqb r 0) (length (listing s)) 0
-      ; buffer = cond (eqb r 0) (over (listing s) buffer) buffer
-      }
+    record {
+      refusal = r;
+      written = cond (eqb r 0) (length (listing s)) 0;
+      buffer = cond (eqb r 0) (over (listing s) buffer) buffer;
+    }
 
 -- the listing of an accepted report, and nothing for another command
 unfoldable pub reported : System → List ℕ → List ℕ
@@ -149,8 +149,9 @@ reports (suc fuel) s [] = []
 reports (suc fuel) s (b ∷ bytes) =
     let r : Result = command s (b ∷ bytes) in
     elim (eqb (r .refusal) 0) [
-      true ↦ reported s (b ∷ bytes) ++ reports fuel (r .system) (drop (r .length) (b ∷ bytes))
-    | false ↦ [] ]
+      | true ↦ reported s (b ∷ bytes) ++ reports fuel (r .system) (drop (r .length) (b ∷ bytes))
+      | false ↦ []
+    ]
 
 -- all that the rehearsal program prints for a schedule
 unfoldable pub output : List ℕ → List ℕ

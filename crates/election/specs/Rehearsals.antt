@@ -87,11 +87,11 @@ rehearsals =
     ∷ record { bytes = at20 ++ crash1 ++ start1 ++ run 19; view = inLast leaders; seen = 0 ∷ 1 ∷ 2 ∷ [] }
     ∷ record { bytes = at20 ++ crash1 ++ start1 ++ run 30; view = inLast leaders; seen = 0 ∷ 2 ∷ 2 ∷ [] }
     -- start 1, run 20, start 2, run 17, crash 2, start 2: station 2 trusts 1 before any tick, count 2
-    ∷ record
-        { bytes = (0x01 ∷ 0x02 ∷ 0x10 ∷ start1) ++ run 20 ++ (0x02 ∷ 0x02 ∷ []) ++ run 17 ++ (0x03 ∷ 0x02 ∷ 0x02 ∷ 0x02 ∷ [])
-        ; view = inLast secondCount
-        ; seen = 0 ∷ 1 ∷ 2 ∷ []
-        }
+    ∷ record {
+      bytes = (0x01 ∷ 0x02 ∷ 0x10 ∷ start1) ++ run 20 ++ (0x02 ∷ 0x02 ∷ []) ++ run 17 ++ (0x03 ∷ 0x02 ∷ 0x02 ∷ 0x02 ∷ []);
+      view = inLast secondCount;
+      seen = 0 ∷ 1 ∷ 2 ∷ [];
+    }
     ∷ []
 
 abbrev pub errors : List Row

@@ -24,8 +24,9 @@ follow (suc fuel) s at [] = record { refusal = 0; offset = at; system = s }
 follow (suc fuel) s at (b ∷ bytes) =
     let r : Result = command s (b ∷ bytes) in
     elim (eqb (r .refusal) 0) [
-      true ↦ follow fuel (r .system) (at + r .length) (drop (r .length) (b ∷ bytes))
-    | false ↦ record { refusal = r .refusal; offset = at; system = s } ]
+      | true ↦ follow fuel (r .system) (at + r .length) (drop (r .length) (b ∷ bytes))
+      | false ↦ record { refusal = r .refusal; offset = at; system = s }
+    ]
 
 abbrev pub mostBytes : ℕ
 mostBytes = 65536

@@ -32,8 +32,9 @@ history (suc fuel) s [] = []
 history (suc fuel) s (b ∷ bytes) =
     let c : Command = decode (b ∷ bytes) in
     elim (accepted s (b ∷ bytes)) [
-      true ↦ c ∷ history fuel (perform c s) (drop (1 + operands c) (b ∷ bytes))
-    | false ↦ [] ]
+      | true ↦ c ∷ history fuel (perform c s) (drop (1 + operands c) (b ∷ bytes))
+      | false ↦ []
+    ]
 
 abbrev pub commands : List ℕ → List Command
 commands bytes = history (length bytes) fresh bytes

@@ -20,17 +20,17 @@ longestDelay = 64
 -- what lies past the end of an array
 abbrev pub noStation : Station
 noStation =
-    record
-      { incarnation = 0
-      ; stable = 0
-      ; up = false
-      ; leader = 0
-      ; timer = 0
-      ; slot = 0
-      ; recovering = false
-      ; recovered = []
-      ; timeouts = []
-      }
+    record {
+      incarnation = 0;
+      stable = 0;
+      up = false;
+      leader = 0;
+      timer = 0;
+      slot = 0;
+      recovering = false;
+      recovered = [];
+      timeouts = [];
+    }
 
 abbrev pub noMessage : Message
 noMessage = record { sent = 0; due = 0; counts = [] }
@@ -79,42 +79,42 @@ isLink n p q = ltb (p - 1) n && ltb (q - 1) n && not (eqb p q)
 -- a station that keeps a leader, down and never started
 abbrev pub unstarted : ℕ → Station
 unstarted leader =
-    record
-      { incarnation = 0
-      ; stable = leader
-      ; up = false
-      ; leader = 0
-      ; timer = 0
-      ; slot = 0
-      ; recovering = false
-      ; recovered = replicate 8 0
-      ; timeouts = replicate 8 0
-      }
+    record {
+      incarnation = 0;
+      stable = leader;
+      up = false;
+      leader = 0;
+      timer = 0;
+      slot = 0;
+      recovering = false;
+      recovered = replicate 8 0;
+      timeouts = replicate 8 0;
+    }
 
 -- The fresh system is not set up and all its numbers are zero.
 unfoldable pub fresh : System
 fresh =
-    record
-      { ready = false
-      ; n = 0
-      ; period = 0
-      ; tick = 0
-      ; stations = replicate 8 (unstarted 0)
-      ; sent = replicate 8 0
-      ; delays = replicate 64 0
-      ; links = replicate 64 (holding [])
-      }
+    record {
+      ready = false;
+      n = 0;
+      period = 0;
+      tick = 0;
+      stations = replicate 8 (unstarted 0);
+      sent = replicate 8 0;
+      delays = replicate 64 0;
+      links = replicate 64 (holding []);
+    }
 
 -- Set up leaves the tick at 0, every station down and never started, no message under way, sent counts at 0, every delay at 1.
 unfoldable pub initial : ℕ → ℕ → System
 initial n period =
-    record
-      { ready = true
-      ; n = n
-      ; period = period
-      ; tick = 0
-      ; stations = upTo 8 (λ k. unstarted (cond (ltb k n) (k + 1) 0))
-      ; sent = replicate 8 0
-      ; delays = upTo 64 (λ k. cond (isLink n (from k) (to k)) 1 0)
-      ; links = replicate 64 (holding [])
-      }
+    record {
+      ready = true;
+      n = n;
+      period = period;
+      tick = 0;
+      stations = upTo 8 (λ k. unstarted (cond (ltb k n) (k + 1) 0));
+      sent = replicate 8 0;
+      delays = upTo 64 (λ k. cond (isLink n (from k) (to k)) 1 0);
+      links = replicate 64 (holding []);
+    }

@@ -59,16 +59,16 @@ underwayAfter s p q = later (next s) (underway s p q) ++ sent s p q
 
 unfoldable pub tick : System → System
 tick s =
-    record
-      { ready = s .ready
-      ; n = s .n
-      ; period = s .period
-      ; tick = next s
-      ; stations = upTo 8 (λ k. cond (ltb k (s .n)) (slottedNow (s .period) (next s) (settled s (k + 1))) (getD (s .stations) k noStation))
-      ; sent = upTo 8 (λ k. cond (ltb k (s .n) && sending s (k + 1)) (getD (s .sent) k 0 + (s .n - 1)) (getD (s .sent) k 0))
-      ; delays = s .delays
-      ; links = upTo 64 (λ k. cond (isLink (s .n) (from k) (to k)) (holding (underwayAfter s (from k) (to k))) (getD (s .links) k noLink))
-      }
+    record {
+      ready = s .ready;
+      n = s .n;
+      period = s .period;
+      tick = next s;
+      stations = upTo 8 (λ k. cond (ltb k (s .n)) (slottedNow (s .period) (next s) (settled s (k + 1))) (getD (s .stations) k noStation));
+      sent = upTo 8 (λ k. cond (ltb k (s .n) && sending s (k + 1)) (getD (s .sent) k 0 + (s .n - 1)) (getD (s .sent) k 0));
+      delays = s .delays;
+      links = upTo 64 (λ k. cond (isLink (s .n) (from k) (to k)) (holding (underwayAfter s (from k) (to k))) (getD (s .links) k noLink));
+    }
 
 -- a run of t ticks
 unfoldable pub ticks : ℕ → System → System

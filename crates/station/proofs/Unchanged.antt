@@ -20,13 +20,13 @@ unchanged s = record { up = refl; slot = refl; recovering = refl; stable = refl;
 -- one change after another
 pub then-unchanged : (s y z : Station) → Unchanged s y → Unchanged y z → Unchanged s z
 then-unchanged s y z a b =
-    record
-      { up = b .up ∙ a .up
-      ; slot = b .slot ∙ a .slot
-      ; recovering = b .recovering ∙ a .recovering
-      ; stable = b .stable ∙ a .stable
-      ; incarnation = b .incarnation ∙ a .incarnation
-      }
+    record {
+      up = b .up ∙ a .up;
+      slot = b .slot ∙ a .slot;
+      recovering = b .recovering ∙ a .recovering;
+      stable = b .stable ∙ a .stable;
+      incarnation = b .incarnation ∙ a .incarnation;
+    }
 
 settled-unchanged : (me : ℕ) (s x : Station) → Unchanged s x → Unchanged s (settled me x)
 unfolding settled
