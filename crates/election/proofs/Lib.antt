@@ -11,12 +11,14 @@ pub mod Earlier
 pub mod Exact
 pub mod Follower
 pub mod Handing
+pub mod Idle
 pub mod InitialSound
 pub mod Invariant
 pub mod KeepsSound
 pub mod Mail
 pub mod NeverUnsound
 pub mod Once
+pub mod Order
 pub mod Places
 pub mod Potential
 pub mod Reached

@@ -1,7 +1,9 @@
 pub mod Claims
 pub mod Commands
 pub mod Handed
+pub mod Idle
 pub mod Listing
+pub mod Order
 pub mod Rehearsals
 pub mod Schedule
 pub mod Settling

@@ -8,10 +8,11 @@ use Rattle.lists.specs.Entries.{over}
 use Rattle.lists.specs.First.{firstFailed}
 use Rattle.lists.specs.Test.{allTo}
 use Rattle.station.specs.declared.Station.{Station}
-use Rattle.election.specs.Commands.{Result, command}
+use Rattle.election.specs.Commands.{Result, command, refusalOf, lengthOf}
 use Rattle.election.specs.Schedule.{End, mostBytes, schedule}
 use Rattle.election.specs.Sound.{sound}
 use Rattle.election.specs.System.{fresh, station, sentBy}
+use Rattle.election.specs.declared.Answer.{Answer}
 use Rattle.election.specs.declared.System.{System}
 
 -- decimal digits of a number below 10^fuel
@@ -132,6 +133,10 @@ listed s buffer =
       written = cond (eqb r 0) (length (listing s)) 0;
       buffer = cond (eqb r 0) (over (listing s) buffer) buffer;
     }
+
+-- an answer, with the buffer as it is then
+abbrev pub said : Answer → List ℕ → Listed
+said answer buffer = record { refusal = refusalOf answer; written = lengthOf answer; buffer = buffer }
 
 -- the listing of an accepted report, and nothing for another command
 unfoldable pub reported : System → List ℕ → List ℕ

@@ -12,7 +12,7 @@ use crate::rules::other;
 use crate::rules::precedes;
 use crate::rules::timeout_of;
 
-fn wide(x: u32) -> u64
+pub fn wide(x: u32) -> u64
     ensures { λ r. ⌜ r ≡ x ⌝ }
 {
     x as u64
@@ -68,7 +68,7 @@ fn count_in(n: u8, k: usize, x: u16) -> bool
 }
 
 // Whether every count is in range.
-fn counts_in(n: u8, v: [u16; 8]) -> bool
+pub fn counts_in(n: u8, v: [u16; 8]) -> bool
     ensures { λ r. ⌜ r ≡ countsIn n v ⌝ }
 {
     for k in 0..8 {
@@ -103,7 +103,7 @@ fn timeouts_in(me: u8, n: u8, period: u32, high: u64, t: [u32; 8]) -> bool
 }
 
 // Whether all that a crash loses is zero.
-fn cleared(s: Station) -> bool
+pub fn cleared(s: Station) -> bool
     ensures { λ r. ⌜ r ≡ cleared s ⌝ }
 {
     let v = s.recovered;

@@ -1,5 +1,5 @@
 // The rules of one station of the stable-storage leader election, and the station operations.
-mod fit;
+pub mod fit;
 pub mod rules;
 
 ghost use mathlib.Core.Path.{_≡_};

@@ -1,0 +1,256 @@
+-- An idle tick only raises the counter.
+use mathlib.Core.Path.{_≡_, refl, sym, ap, subst, subst₂, _∙_}
+use mathlib.Core.Logic.{_≢_}
+use mathlib.Core.List.{List, [], _∷_, append-nil}
+use mathlib.Core.Bool.{Bool, true, false, cond, not, _&&_, and-false}
+use Prim.Native.Nat.{ℕ, zero, suc, _+_, _-_, _<_, _≤_}
+use native.Mathlib.Decide.{decLt}
+use native.Mathlib.Omega.{arith}
+use lib.ListN.{length, getD, take, replicate, length-take}
+use lib.Seq.{getD-take, ext-getD}
+use lib.Dec.{ltb, eqb}
+use borrow.Author.Tests.{eqb-true, eqb-false, ne-eqb, lt-ltb, le-ltb, not-true}
+use Rattle.lists.specs.Entries.{upTo}
+use Rattle.lists.specs.Every.{All}
+use Rattle.lists.specs.Test.{allTo}
+use Rattle.lists.proofs.Bools.{both, three, cond-elim}
+use Rattle.lists.proofs.Entries.{length-upTo, getD-upTo, length-over}
+use Rattle.lists.proofs.Fold.{each-keeps}
+use Rattle.lists.proofs.Test.{all-at}
+use Rattle.station.specs.Fit.{countsIn}
+use Rattle.station.specs.declared.Station.{Station}
+use Rattle.station.proofs.Tests.{counts-of}
+use Rattle.station.proofs.Vectors.{zeros-at}
+use Rattle.election.specs.Idle.{quietStation, quietLink, idle, raised, Held, IdleTick, IdleHeld, TickHeld}
+use Rattle.election.specs.Sound.{emptyMessage, messageAt}
+use Rattle.election.specs.System.{noStation, noMessage, noLink, station, place, from, to, messages, unused, holding, underway, isLink}
+use Rattle.election.specs.Tick.{next, heardLink, heardAll, expiredNow, slottedNow, settled, sending, sent, underwayAfter, tick}
+use Rattle.election.specs.declared.Link.{Link}
+use Rattle.election.specs.declared.Message.{Message}
+use Rattle.election.specs.declared.System.{System}
+use Rattle.election.proofs.Invariant.{later-none}
+use Rattle.election.proofs.Mail.{Linked, holding-used, holding-at, holding-rest}
+use Rattle.election.proofs.Places.{In, messages-holding}
+use Rattle.election.proofs.Soundness.{Sound, sound-of, link-of, place-of}
+use Rattle.election.proofs.TickSound.{after-few}
+
+-- a link with no message due: none of its messages is due
+none-due : (now u : ℕ) (ms : List Message) → ((i : ℕ) → i < u → getD ms i noMessage .due ≢ now) → All (λ (m : Message). m .due ≢ now) (take u ms)
+none-due now zero ms h = tt
+none-due now (suc u) [] h = tt
+none-due now (suc u) (m ∷ ms) h = (h 0 (omega arith), none-due now u ms (λ i l. h (suc i) (omega arith)))
+
+quiet-none : (now : ℕ) (l : Link) → quietLink now l ≡ true → All (λ (m : Message). m .due ≢ now) (messages l)
+unfolding quietLink messages
+quiet-none now l e =
+    none-due now (l .used) (l .messages)
+    (λ i h. eqb-false (messageAt l i .due) now (not-true (eqb (messageAt l i .due) now) (all-at (l .used) i (λ i. not (eqb (messageAt l i .due) now)) e h)))
+
+-- and nothing is heard
+hears-none-due : (me q now : ℕ) (ms : List Message) (x : Station) → All (λ (m : Message). m .due ≢ now) ms → heardLink me q now ms x ≡ x
+unfolding heardLink
+hears-none-due me q now [] x h = refl
+hears-none-due me q now (m ∷ ms) x h = rw (ne-eqb (m .due) now (h .0)) (hears-none-due me q now ms x (h .1))
+
+-- what idle says
+module _ (s : System) (e : idle s ≡ true) where
+  quiet : (allTo (s .n) (λ k. quietStation (next s) (station s (k + 1))) ≡ true)
+      × (allTo (s .n) (λ j. allTo (s .n) (λ k. quietLink (next s) (getD (s .links) (place (j + 1) (k + 1)) noLink))) ≡ true)
+  unfolding idle
+  quiet =
+      both (allTo (s .n) (λ k. quietStation (next s) (station s (k + 1))))
+      (allTo (s .n) (λ j. allTo (s .n) (λ k. quietLink (next s) (getD (s .links) (place (j + 1) (k + 1)) noLink)))) e
+
+  module _ (k : ℕ) (h : k < s .n) where
+    quiet-at : (not (station s (k + 1) .up && eqb (station s (k + 1) .timer) (next s)) ≡ true) × (not (eqb (station s (k + 1) .slot) (next s)) ≡ true)
+    unfolding quietStation
+    quiet-at =
+        both (not (station s (k + 1) .up && eqb (station s (k + 1) .timer) (next s))) (not (eqb (station s (k + 1) .slot) (next s)))
+        (all-at (s .n) k (λ k. quietStation (next s) (station s (k + 1))) (quiet .0) h)
+
+    no-slot : eqb (station s (k + 1) .slot) (next s) ≡ false
+    no-slot = not-true (eqb (station s (k + 1) .slot) (next s)) (quiet-at .1)
+
+    no-timer : station s (k + 1) .up ≡ true → eqb (station s (k + 1) .timer) (next s) ≡ false
+    no-timer u =
+        ap (λ b. b && eqb (station s (k + 1) .timer) (next s)) (sym u)
+        ∙ not-true (station s (k + 1) .up && eqb (station s (k + 1) .timer) (next s)) (quiet-at .0)
+
+  no-message : (j k : ℕ) → j < s .n → k < s .n → All (λ (m : Message). m .due ≢ next s) (underway s (j + 1) (k + 1))
+  no-message j k l h =
+      quiet-none (next s) (getD (s .links) (place (j + 1) (k + 1)) noLink)
+      (all-at (s .n) k (λ k. quietLink (next s) (getD (s .links) (place (j + 1) (k + 1)) noLink))
+      (all-at (s .n) j (λ j. allTo (s .n) (λ k. quietLink (next s) (getD (s .links) (place (j + 1) (k + 1)) noLink))) (quiet .1) l) h)
+
+  -- so a station stays as it is, and sends nothing
+  module _ (k : ℕ) (h : k < s .n) where
+    hears-nothing : heardAll (s .n) (k + 1) (next s) (λ q. underway s q (k + 1)) (station s (k + 1)) ≡ station s (k + 1)
+    unfolding heardAll
+    hears-nothing =
+        each-keeps (λ y. y ≡ station s (k + 1)) (s .n) (λ j. heardLink (k + 1) (j + 1) (next s) (underway s (j + 1) (k + 1))) (station s (k + 1))
+        (λ j y l r. hears-none-due (k + 1) (j + 1) (next s) (underway s (j + 1) (k + 1)) y (no-message j k l h) ∙ r) refl
+
+    settled-same : settled s (k + 1) ≡ station s (k + 1)
+    unfolding settled expiredNow
+    settled-same =
+        cond-elim (λ y. y ≡ station s (k + 1)) (station s (k + 1) .up) (λ u. rw (hears-nothing, no-timer k h u)) (λ u. refl)
+
+    slotted-same : slottedNow (s .period) (next s) (settled s (k + 1)) ≡ station s (k + 1)
+    unfolding slottedNow
+    slotted-same = rw (settled-same, no-slot k h)
+
+    sends-nothing : sending s (k + 1) ≡ false
+    unfolding sending
+    sends-nothing = rw (settled-same, no-slot k h, and-false)
+
+-- field by field
+module _ (s : System) (full : Held s) (e : idle s ≡ true) where
+  same-stations : tick s .stations ≡ s .stations
+  unfolding tick
+  same-stations =
+      ext-getD noStation (upTo 8 f) (s .stations) (length-upTo 8 f ∙ sym (full .stations))
+      (λ k h. (let l : k < 8 = omega (arith, length-upTo 8 f) in getD-upTo 8 f k noStation l ∙ go k (decLt k (s .n))))
+    where
+      f : ℕ → Station
+      f k = cond (ltb k (s .n)) (slottedNow (s .period) (next s) (settled s (k + 1))) (getD (s .stations) k noStation)
+
+      go : (k : ℕ) → Dec (k < s .n) → f k ≡ getD (s .stations) k noStation
+      go k (yes l) = let z : k + 1 - 1 ≡ k = omega arith in rw (lt-ltb k (s .n) l) (slotted-same s e k l ∙ ap (λ i. getD (s .stations) i noStation) z)
+      go k (no l) = rw (le-ltb k (s .n) (omega arith))
+
+  same-sent : tick s .sent ≡ s .sent
+  unfolding tick
+  same-sent =
+      ext-getD 0 (upTo 8 f) (s .sent) (length-upTo 8 f ∙ sym (full .sent))
+      (λ k h. (let l : k < 8 = omega (arith, length-upTo 8 f) in getD-upTo 8 f k 0 l ∙ go k (decLt k (s .n))))
+    where
+      f : ℕ → ℕ
+      f k = cond (ltb k (s .n) && sending s (k + 1)) (getD (s .sent) k 0 + (s .n - 1)) (getD (s .sent) k 0)
+
+      go : (k : ℕ) → Dec (k < s .n) → f k ≡ getD (s .sent) k 0
+      go k (yes l) = rw (sends-nothing s e k l, and-false)
+      go k (no l) = rw (le-ltb k (s .n) (omega arith))
+
+  -- the messages under way from p to q stay, and none is added
+  none-underway : (p q : ℕ) → In (s .n) p → In (s .n) q → All (λ (m : Message). m .due ≢ next s) (underway s p q)
+  none-underway p q hp hq =
+      let a : p - 1 + 1 ≡ p = omega (arith, hp .low) in
+      let b : q - 1 + 1 ≡ q = omega (arith, hq .low) in
+      subst₂ (λ x y. All (λ (m : Message). m .due ≢ next s) (underway s x y)) a b
+      (no-message s e (p - 1) (q - 1) (omega (arith, hp .low, hp .high)) (omega (arith, hq .low, hq .high)))
+
+  none-sent : (p : ℕ) → In (s .n) p → sending s p ≡ false
+  none-sent p hp =
+      let a : p - 1 + 1 ≡ p = omega (arith, hp .low) in
+      subst (λ x. sending s x ≡ false) a (sends-nothing s e (p - 1) (omega (arith, hp .low, hp .high)))
+
+  same-underway : (p q : ℕ) → In (s .n) p → In (s .n) q → underwayAfter s p q ≡ underway s p q
+  unfolding sent
+  same-underway p q hp hq = rw (later-none (next s) (underway s p q) (none-underway p q hp hq), none-sent p hp) (append-nil (underway s p q))
+
+  same-links : tick s .links ≡ s .links
+  unfolding tick
+  same-links =
+      ext-getD noLink (upTo 64 f) (s .links) (length-upTo 64 f ∙ sym (full .links))
+      (λ k h. (let l : k < 64 = omega (arith, length-upTo 64 f) in getD-upTo 64 f k noLink l ∙ go k l (isLink (s .n) (from k) (to k)) refl))
+    where
+      f : ℕ → Link
+      f k = cond (isLink (s .n) (from k) (to k)) (holding (underwayAfter s (from k) (to k))) (getD (s .links) k noLink)
+
+      go : (k : ℕ) → k < 64 → (b : Bool) → isLink (s .n) (from k) (to k) ≡ b → cond b (holding (underwayAfter s (from k) (to k))) (getD (s .links) k noLink) ≡ getD (s .links) k noLink
+      go k h true i =
+          let (hp, hq, ne) = link-of (s .n) (from k) (to k) (omega arith) (omega arith) i in
+          ap holding (same-underway (from k) (to k) hp hq)
+          ∙ ap (λ x. holding (messages (getD (s .links) x noLink))) (place-of k h)
+          ∙ full .held k h i
+      go k h false i = refl
+
+pub idle-held : IdleHeld
+unfolding tick raised
+idle-held s full e =
+    λ i. record {
+      ready = s .ready;
+      n = s .n;
+      period = s .period;
+      tick = next s;
+      stations = same-stations s full e i;
+      sent = same-sent s full e i;
+      delays = s .delays;
+      links = same-links s full e i;
+    }
+
+-- an empty place with eight counts is an unused one
+empty-unused : (m : Message) → length (m .counts) ≡ 8 → emptyMessage m ≡ true → m ≡ unused
+unfolding emptyMessage
+empty-unused m eight e =
+    let (a, b, c) = three (eqb (m .sent) 0) (eqb (m .due) 0) (countsIn 0 (m .counts)) e in
+    let none : (k : ℕ) → k < 8 → getD (m .counts) k 0 ≤ 0 = λ k h. rw (le-ltb k 0 (omega arith)) at (counts-of 0 (m .counts) c k h) in
+    let zeros : m .counts ≡ replicate 8 0 = ext-getD 0 (m .counts) (replicate 8 0) eight (λ k h. omega (arith, none k (omega arith), zeros-at k)) in
+    λ i. record { sent = eqb-true (m .sent) 0 a i; due = eqb-true (m .due) 0 b i; counts = zeros i }
+
+length-holding : (ms : List Message) → length ms ≤ 4 → length (holding ms .messages) ≡ 4
+unfolding holding
+length-holding ms h = length-over ms (replicate 4 unused) h
+
+-- a link with four places of which the unused are empty holds its messages
+linked-held : (n period tick : ℕ) (sender : Station) (l : Link) → length (l .messages) ≡ 4 → ((i : ℕ) → i < 4 → length (messageAt l i .counts) ≡ 8)
+    → Linked n period tick sender l → holding (messages l) ≡ l
+unfolding messages
+linked-held n period tick sender l four eight f =
+    λ i. record { used = (holding-used front few ∙ size) i; messages = same i }
+  where
+    front : List Message
+    front = take (l .used) (l .messages)
+
+    size : length front ≡ l .used
+    size = omega (arith, length-take (l .used) (l .messages), f .few)
+
+    few : length front ≤ 4
+    few = omega (arith, size, f .few)
+
+    long : length (holding front .messages) ≡ 4
+    long = length-holding front few
+
+    at : (k : ℕ) → k < 4 → Dec (k < l .used) → messageAt (holding front) k ≡ messageAt l k
+    at k h (yes i) = holding-at front few k (omega (arith, size)) ∙ getD-take (l .used) (l .messages) k noMessage i
+    at k h (no i) =
+        holding-rest front few k h (omega (arith, size))
+        ∙ sym (empty-unused (messageAt l k) (eight k h) (f .rest k h (omega arith)))
+
+    same : holding front .messages ≡ l .messages
+    same = ext-getD noMessage (holding front .messages) (l .messages) (long ∙ sym four) (λ k h. at k (omega (arith, long)) (decLt k (l .used)))
+
+pub idle-tick : IdleTick
+idle-tick s e u arrays still = idle-held s (record { stations = arrays .stations; sent = arrays .sent; links = arrays .links; held = held }) still
+  where
+    f : Sound s
+    f = sound-of s e u
+
+    held : (k : ℕ) → k < 64 → isLink (s .n) (from k) (to k) ≡ true → holding (messages (getD (s .links) k noLink)) ≡ getD (s .links) k noLink
+    held k h i =
+        let (hp, hq, ne) = link-of (s .n) (from k) (to k) (omega arith) (omega arith) i in
+        linked-held (s .n) (s .period) (s .tick) (station s (from k)) (getD (s .links) k noLink) (arrays .messages k h) (λ j l. arrays .counts k j h l)
+        (subst (λ x. Linked (s .n) (s .period) (s .tick) (station s (from k)) (getD (s .links) x noLink)) (place-of k h) (f .linked (from k) (to k) hp hq ne))
+
+-- what a tick leaves
+pub tick-held : TickHeld
+unfolding tick
+tick-held s e u before =
+    record {
+      stations = length-upTo 8 (λ k. cond (ltb k (s .n)) (slottedNow (s .period) (next s) (settled s (k + 1))) (getD (s .stations) k noStation));
+      sent = length-upTo 8 (λ k. cond (ltb k (s .n) && sending s (k + 1)) (getD (s .sent) k 0 + (s .n - 1)) (getD (s .sent) k 0));
+      links = length-upTo 64 link;
+      held = λ k h i. subst (λ l. holding (messages l) ≡ l) (sym (at k h i)) (again k i);
+    }
+  where
+    link : ℕ → Link
+    link k = cond (isLink (s .n) (from k) (to k)) (holding (underwayAfter s (from k) (to k))) (getD (s .links) k noLink)
+
+    at : (k : ℕ) → k < 64 → isLink (s .n) (from k) (to k) ≡ true → getD (upTo 64 link) k noLink ≡ holding (underwayAfter s (from k) (to k))
+    at k h i = getD-upTo 64 link k noLink h ∙ rw i
+
+    again : (k : ℕ) → isLink (s .n) (from k) (to k) ≡ true
+        → holding (messages (holding (underwayAfter s (from k) (to k)))) ≡ holding (underwayAfter s (from k) (to k))
+    again k i =
+        let (hp, hq, ne) = link-of (s .n) (from k) (to k) (omega arith) (omega arith) i in
+        ap holding (messages-holding (underwayAfter s (from k) (to k)) (after-few s (sound-of s e u) before (from k) (to k) hp hq ne))

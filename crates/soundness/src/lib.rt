@@ -1,0 +1,215 @@
+// Whether a system is sound: every clause of document 01's list, tested. No sum in the tests wraps.
+ghost use mathlib.Core.Path.{_≡_};
+ghost use mathlib.Core.Bool.{true, cond, _&&_};
+ghost use Prim.Native.Nat.{ℕ, _+_, _*_, _<_, _≤_};
+ghost use lib.Dec.{leb, ltb, eqb};
+ghost use lib.ListN.{getD};
+ghost use Rattle.lists.specs.Test.{allTo};
+ghost use Rattle.election.specs.System.{noStation, noLink, station, from, to, isLink};
+ghost use Rattle.election.specs.Sound.{emptyStation, emptyMessage, messageIn, beforeSlot, messageAt, linkIn, placeIn, stationIn, sound};
+ghost use Rattle.soundness.specs.Parts.{used, spaced, ordered, placed, emptyPlaces, seated, linked};
+use election::Link;
+use election::Message;
+use election::System;
+use station::Station;
+use station::fit::cleared;
+use station::fit::counts_in;
+use station::fit::fit;
+use station::fit::wide;
+
+// Whether a place beyond the stations is zero.
+fn empty_station(x: Station) -> bool
+    ensures { λ r. ⌜ r ≡ emptyStation x ⌝ }
+{
+    (x.incarnation == 0) & (x.stable == 0) & !x.up & cleared(x)
+}
+
+// Whether an unused place of a link is zero.
+fn empty_message(m: Message) -> bool
+    ensures { λ r. ⌜ r ≡ emptyMessage m ⌝ }
+{
+    let v = m.counts;
+    (m.sent == 0) & (m.due == 0) & counts_in(0, v)
+}
+
+// Whether a message's ticks and counts are in range.
+fn message_in(n: u8, tick: u32, m: Message) -> bool
+    ensures { λ r. ⌜ r ≡ messageIn n tick m ⌝ }
+{
+    let v = m.counts;
+    let last = wide(m.sent) + 64;
+    (m.sent <= tick) & (tick < m.due) & (wide(m.due) <= last) & counts_in(n, v)
+}
+
+// Whether an up sender's next send chance is at least a period after the sending.
+fn before_slot(period: u32, sender: Station, m: Message) -> bool
+    ensures { λ r. ⌜ r ≡ beforeSlot period sender m ⌝ }
+{
+    let first = wide(m.sent) + wide(period);
+    let slot = wide(sender.slot);
+    if sender.up { first <= slot } else { true }
+}
+
+// Whether place k of a link holds a message, or is zero where it is unused.
+fn used(n: u8, period: u32, tick: u32, sender: Station, count: u8, k: usize, m: Message) -> bool
+    ensures { λ r. ⌜ r ≡ used n period tick sender count k m ⌝ }
+{
+    if k < count as usize {
+        message_in(n, tick, m) & before_slot(period, sender, m)
+    } else {
+        empty_message(m)
+    }
+}
+
+// Whether all places of a link hold messages as far as they are used, and are zero beyond.
+fn placed(n: u8, period: u32, tick: u32, sender: Station, l: Link) -> bool
+    ensures { λ r. ⌜ r ≡ placed n period tick sender l ⌝ }
+{
+    let ms = l.messages;
+    for k in 0..4 {
+        if !used(n, period, tick, sender, l.used, k, ms[k]) {
+            return false;
+        }
+    }
+    true
+}
+
+// Whether two sendings lie at least a period apart.
+fn apart(period: u32, older: Message, younger: Message) -> bool
+    ensures { λ r. ⌜ r ≡ leb (older .sent + period) (younger .sent) ⌝ }
+{
+    let first = wide(older.sent) + wide(period);
+    first <= wide(younger.sent)
+}
+
+// Whether the message at place k was sent at least a period before the one after it, if there is one.
+fn spaced(period: u32, l: Link, k: usize) -> bool
+    requires { ⌜ (l .used ≤ 4) × (k < 4) ⌝ }
+    ensures { λ r. ⌜ r ≡ spaced period l k ⌝ }
+{
+    let ms = l.messages;
+    if k + 1 < l.used as usize {
+        apart(period, ms[k], ms[k + 1])
+    } else {
+        true
+    }
+}
+
+// Whether the messages of a link stand oldest first, sendings at least a period apart.
+fn ordered(period: u32, l: Link) -> bool
+    requires { ⌜ l .used ≤ 4 ⌝ }
+    ensures { λ r. ⌜ r ≡ ordered period l ⌝ }
+{
+    for k in 0..4 {
+        if !spaced(period, l, k) {
+            return false;
+        }
+    }
+    true
+}
+
+// Whether a link between two stations is in range.
+fn link_in(n: u8, period: u32, tick: u32, sender: Station, l: Link) -> bool
+    ensures { λ r. ⌜ r ≡ linkIn n period tick sender l ⌝ }
+{
+    if 4 < l.used {
+        return false;
+    }
+    placed(n, period, tick, sender, l) & ordered(period, l)
+}
+
+// Whether all places of a link are zero.
+fn empty_places(l: Link) -> bool
+    ensures { λ r. ⌜ r ≡ emptyPlaces l ⌝ }
+{
+    let ms = l.messages;
+    for k in 0..4 {
+        if !empty_message(ms[k]) {
+            return false;
+        }
+    }
+    true
+}
+
+// Whether the link from p to q is one of the system's.
+fn is_link(n: u8, p: u8, q: u8) -> bool
+    requires { ⌜ (1 ≤ p) × (1 ≤ q) ⌝ }
+    ensures { λ r. ⌜ r ≡ isLink n p q ⌝ }
+{
+    (p - 1 < n) & (q - 1 < n) & !(p == q)
+}
+
+// Whether the place of the link from p to q is in range, with its delay and sender.
+fn linked(n: u8, period: u32, tick: u32, p: u8, q: u8, delay: u8, sender: Station, l: Link) -> bool
+    requires { ⌜ (1 ≤ p) × (1 ≤ q) ⌝ }
+    ensures { λ r. ⌜ r ≡ linked n period tick p q delay sender l ⌝ }
+{
+    if is_link(n, p, q) {
+        (delay <= 64) & link_in(n, period, tick, sender, l)
+    } else {
+        (delay == 0) & (l.used == 0) & empty_places(l)
+    }
+}
+
+// Whether a place of the stations is in range, with its sent count.
+fn seated(n: u8, period: u32, tick: u32, k: u8, x: Station, sent: u32) -> bool
+    requires { ⌜ k < 8 ⌝ }
+    ensures { λ r. ⌜ r ≡ seated n period tick k x sent ⌝ }
+{
+    let most = 7 * wide(tick);
+    if k < n {
+        fit(k + 1, n, period, tick, x) & (wide(sent) <= most)
+    } else {
+        empty_station(x) & (sent == 0)
+    }
+}
+
+// Whether every clause of soundness holds of the stations.
+fn stations_in(s: System) -> bool
+    ensures { λ r. ⌜ r ≡ allTo 8 (stationIn s) ⌝ }
+{
+    for k in 0..8 {
+        if !seated(s.n, s.period, s.tick, k as u8, s.stations[k], s.sent[k]) {
+            return false;
+        }
+    }
+    true
+}
+
+// Whether every clause of soundness holds of the links.
+fn links_in(s: System) -> bool
+    ensures { λ r. ⌜ r ≡ allTo 64 (placeIn s) ⌝ }
+{
+    for k in 0..64 {
+        let p = k / 8;
+        let q = k % 8;
+        let from = p as u8 + 1;
+        let to = q as u8 + 1;
+        if !linked(
+            s.n,
+            s.period,
+            s.tick,
+            from,
+            to,
+            s.delays[k],
+            s.stations[p],
+            s.links[k],
+        ) {
+            return false;
+        }
+    }
+    true
+}
+
+// Whether a system is sound.
+pub fn sound(s: System) -> bool
+    ensures { λ r. ⌜ r ≡ sound s ⌝ }
+{
+    if !s.ready {
+        return true;
+    }
+    let numbers = ((2 <= s.n) & (s.n <= 8))
+        & ((16 <= s.period) & (s.period <= 255))
+        & (s.tick <= 1000000);
+    numbers & stations_in(s) & links_in(s)
+}
