@@ -1,16 +1,16 @@
 -- One up station, always and through a quiet stretch: A and B of the settling proof, and C.
-use mathlib.Core.Path.{_≡_, refl, sym, ap, _∙_}
+use mathlib.Core.Path.{_≡_, refl, ap}
 use mathlib.Core.Logic.{_≢_}
-use mathlib.Core.Bool.{Bool, true, false}
+use mathlib.Core.Bool.{Bool, true}
 use mathlib.Core.List.{List}
-use Prim.Native.Nat.{ℕ, zero, suc, _+_, _-_, _*_, _≤_, _<_, max}
+use Prim.Native.Nat.{ℕ, _+_, _-_, _*_, _≤_, _<_, max}
 use native.Mathlib.Omega.{arith}
 use native.Mathlib.Decide.{ℕ-discrete, decLt}
 use lib.ListN.{length, getD}
 use Rattle.station.specs.Order.{entry}
-use Rattle.station.specs.Rules.{joined, heard, expired}
+use Rattle.station.specs.Rules.{joined, heard}
 use Rattle.station.specs.declared.Station.{Station}
-use Rattle.station.proofs.Candidates.{keyOf}
+use Rattle.station.proofs.Candidates.{key, keyOf}
 use Rattle.station.proofs.Elimination.{heard-elim, expired-elim}
 use Rattle.station.proofs.Vectors.{joined-at, inside}
 use Rattle.election.specs.Tick.{expiredNow, slottedNow}
@@ -32,10 +32,14 @@ raised x t at same q = go (ℕ-discrete (q - 1) (x .leader - 1))
         (omega arith, omega arith)
     go (no ne) = (omega (arith, same (q - 1) ne), omega (arith, same (q - 1) ne))
 
+-- counts that of whomever S says so do not go beyond C
+abbrev pub Known : ℕ → (ℕ → Bool) → (ℕ → ℕ) → List ℕ → Type 0
+Known n S C v = (q : ℕ) → In n q → S q ≡ true → entry v q ≤ C q
+
 -- Always. S says of whom the counts are known to be bounded by C; b is the tick from which on the timer may end.
 pub record Sane (n period : ℕ) (S : ℕ → Bool) (C : ℕ → ℕ) (p b : ℕ) (x : Station) : Type 0 where
   pub own : entry (x .recovered) p ≡ C p
-  pub low : (q : ℕ) → In n q → S q ≡ true → entry (x .recovered) q ≤ C q
+  pub low : Known n S C (x .recovered)
   pub range : In n (x .leader)
   pub ahead : x .leader ≢ p → keyOf (x .recovered) (x .leader) < keyOf (x .recovered) p
   pub slow : (q : ℕ) → In n q → q ≢ p → period < entry (x .timeouts) q
@@ -43,11 +47,18 @@ pub record Sane (n period : ℕ) (S : ℕ → Bool) (C : ℕ → ℕ) (p b : ℕ
   pub off : x .leader ≡ p → x .timer ≡ 0
 
 module _ (n period : ℕ) (small : n ≤ 8) (S : ℕ → Bool) (C : ℕ → ℕ) (p : ℕ) (ip : In n p) where
-  pub hear-sane : (now q : ℕ) (v : List ℕ) (x : Station) → S p ≡ true → In n q → q ≢ p → ((y : ℕ) → In n y → S y ≡ true → entry v y ≤ C y) → Sane n period S C p now x → Sane n period S C p now (heard p q v now x)
+  -- the counts after a message
+  joined-own : (b : ℕ) (v : List ℕ) (x : Station) → S p ≡ true → Known n S C v → Sane n period S C p b x → entry (joined (x .recovered) v) p ≡ C p
+  joined-own b v x Sp hv h = omega (arith, entry-joined n small (x .recovered) v p ip, hv p ip Sp, h .own)
+
+  joined-low : (b : ℕ) (v : List ℕ) (x : Station) → Known n S C v → Sane n period S C p b x → Known n S C (joined (x .recovered) v)
+  joined-low b v x hv h q iq Sq = omega (arith, entry-joined n small (x .recovered) v q iq, hv q iq Sq, h .low q iq Sq)
+
+  pub hear-sane : (now q : ℕ) (v : List ℕ) (x : Station) → S p ≡ true → In n q → q ≢ p → Known n S C v → Sane n period S C p now x → Sane n period S C p now (heard p q v now x)
   hear-sane now q v x Sp iq qp hv h =
       let k : List ℕ = joined (x .recovered) v in
-      let own : entry k p ≡ C p = omega (arith, entry-joined n small (x .recovered) v p ip, hv p ip Sp, h .own) in
-      let low : (y : ℕ) → In n y → S y ≡ true → entry k y ≤ C y = λ y iy Sy. omega (arith, entry-joined n small (x .recovered) v y iy, hv y iy Sy, h .low y iy Sy) in
+      let own : entry k p ≡ C p = joined-own now v x Sp hv h in
+      let low : Known n S C k = joined-low now v x hv h in
       heard-elim (Sane n period S C p now) p q now v x k (omega (arith, ip .high)) (omega (arith, iq .high)) (omega (arith, h .range .high)) refl
       (λ a b.
       record { own = own; low = low; range = iq; ahead = λ ne. omega (arith, ip .high, iq .high); slow = h .slow; on = λ ne. omega arith; off = λ e. absurd (qp e) })
@@ -102,7 +113,7 @@ pub record Stretch : Type 0 where
   pub L-steady : steady L ≡ true
 
 abbrev pub keyL : Stretch → ℕ
-keyL K = 16 * K .C (K .L) + K .L
+keyL K = key (K .C (K .L)) (K .L)
 
 -- In a stretch: timeouts are at most M and the ticks passed; and a leader that is before L has a timer that ends by since + M + 2 d.
 pub record Calm (K : Stretch) (p b : ℕ) (x : Station) : Type 0 where
@@ -112,14 +123,14 @@ pub record Calm (K : Stretch) (p b : ℕ) (x : Station) : Type 0 where
 
 -- What a message from q that is heard at tick now has to be.
 pub record Fair (K : Stretch) (now q : ℕ) (v : List ℕ) : Type 0 where
-  pub counts : (y : ℕ) → In (K .n) y → K .steady y ≡ true → entry v y ≤ K .C y
+  pub counts : Known (K .n) (K .steady) (K .C) v
   pub old : q ≢ K .L → keyOf v q ≤ keyL K → now ≤ K .since + K .d
 
-module _ (K : Stretch) (p : ℕ) (ip : In (K .n) p) (Sp : K .steady p ≡ true) (least : keyL K ≤ 16 * K .C p + p) where
+module _ (K : Stretch) (p : ℕ) (ip : In (K .n) p) (Sp : K .steady p ≡ true) (least : keyL K ≤ key (K .C p) p) where
   pub hear-calm : (now q : ℕ) (v : List ℕ) (x : Station) → In (K .n) q → q ≢ p → Fair K now q v → Calm K p now x → Calm K p now (heard p q v now x)
   hear-calm now q v x iq qp f h =
       let k : List ℕ = joined (x .recovered) v in
-      let own : entry k p ≡ K .C p = omega (arith, entry-joined (K .n) (K .small) (x .recovered) v p ip, f .counts p ip Sp, h .sane .own) in
+      let own : entry k p ≡ K .C p = joined-own (K .n) (K .period) (K .small) (K .steady) (K .C) p ip now v x Sp (f .counts) (h .sane) in
       let own-late : p ≢ K .L → keyOf k p ≤ keyL K → ⊥ = λ ne le. omega (arith, ip .high, K .L-in .high, K .small) in
       heard-elim (λ (y : Station). Sane (K .n) (K .period) (K .steady) (K .C) p now y → Calm K p now y) p q now v x k (omega (arith, ip .high, K .small)) (omega (arith, iq .high, K .small)) (omega (arith, h .sane .range .high, K .small)) refl
       (λ a b z.
@@ -180,13 +191,13 @@ pub record Trusts (K : Stretch) (t : ℕ) (x : Station) : Type 0 where
   pub leader-L : x .leader ≡ K .L
   pub timer-at : x .timer ≡ t
 
-module _ (K : Stretch) (p now : ℕ) (ip : In (K .n) p) (Sp : K .steady p ≡ true) (pL : p ≢ K .L) (least : keyL K ≤ 16 * K .C p + p) (late : K .since + K .M + 2 * K .d < now) where
+module _ (K : Stretch) (p now : ℕ) (ip : In (K .n) p) (Sp : K .steady p ≡ true) (pL : p ≢ K .L) (least : keyL K ≤ key (K .C p) p) (late : K .since + K .M + 2 * K .d < now) where
   -- A head whose leader is late and that hears L trusts L.
   pub hear-L : (v : List ℕ) (x : Station) → Fair K now (K .L) v → Calm K p now x → Trusts K (now + entry (x .timeouts) (K .L)) (heard p (K .L) v now x)
   hear-L v x f h =
       let k : List ℕ = joined (x .recovered) v in
-      let own : entry k p ≡ K .C p = omega (arith, entry-joined (K .n) (K .small) (x .recovered) v p ip, f .counts p ip Sp, h .sane .own) in
-      let low : entry k (K .L) ≤ K .C (K .L) = omega (arith, entry-joined (K .n) (K .small) (x .recovered) v (K .L) (K .L-in), f .counts (K .L) (K .L-in) (K .L-steady), h .sane .low (K .L) (K .L-in) (K .L-steady)) in
+      let own : entry k p ≡ K .C p = joined-own (K .n) (K .period) (K .small) (K .steady) (K .C) p ip now v x Sp (f .counts) (h .sane) in
+      let low : entry k (K .L) ≤ K .C (K .L) = joined-low (K .n) (K .period) (K .small) (K .steady) (K .C) p ip now v x (f .counts) (h .sane) (K .L) (K .L-in) (K .L-steady) in
       heard-elim (Trusts K (now + entry (x .timeouts) (K .L))) p (K .L) now v x k (omega (arith, ip .high, K .small)) (omega (arith, K .L-in .high, K .small)) (omega (arith, h .sane .range .high, K .small)) refl
       (λ a b. record { leader-L = refl; timer-at = refl })
       (λ a b. absurd (omega arith))
@@ -199,8 +210,8 @@ module _ (K : Stretch) (p now : ℕ) (ip : In (K .n) p) (Sp : K .steady p ≡ tr
   hear-other q t v x iq ne f h g =
       let k : List ℕ = joined (x .recovered) v in
       let e′ : entry k (x .leader) ≡ entry k (K .L) = ap (λ z. entry k z) (g .leader-L) in
-      let own : entry k p ≡ K .C p = omega (arith, entry-joined (K .n) (K .small) (x .recovered) v p ip, f .counts p ip Sp, h .sane .own) in
-      let low : entry k (K .L) ≤ K .C (K .L) = omega (arith, entry-joined (K .n) (K .small) (x .recovered) v (K .L) (K .L-in), f .counts (K .L) (K .L-in) (K .L-steady), h .sane .low (K .L) (K .L-in) (K .L-steady)) in
+      let own : entry k p ≡ K .C p = joined-own (K .n) (K .period) (K .small) (K .steady) (K .C) p ip now v x Sp (f .counts) (h .sane) in
+      let low : entry k (K .L) ≤ K .C (K .L) = joined-low (K .n) (K .period) (K .small) (K .steady) (K .C) p ip now v x (f .counts) (h .sane) (K .L) (K .L-in) (K .L-steady) in
       let after : keyL K < keyOf v q = fair-late K now q v f ne (omega arith) in
       heard-elim (Trusts K t) p q now v x k (omega (arith, ip .high, K .small)) (omega (arith, iq .high, K .small)) (omega (arith, h .sane .range .high, K .small)) refl
       (λ a b. absurd (omega (arith, g .leader-L, entry-joined (K .n) (K .small) (x .recovered) v q iq)))

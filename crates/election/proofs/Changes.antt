@@ -1,35 +1,27 @@
 -- A start, a crash, another delay and the loss of messages leave a sound system.
 use mathlib.Core.Path.{_≡_, sym, ap, subst, _∙_}
 use mathlib.Core.Logic.{_≢_}
-use mathlib.Core.List.{List, []}
+use mathlib.Core.List.{[]}
 use mathlib.Core.Bool.{true, false, true≢false}
 use Prim.Native.Nat.{ℕ, _+_, _-_, _<_, _≤_}
-use native.Mathlib.Decide.{decLt, ℕ-discrete}
 use native.Mathlib.Omega.{arith}
-use lib.ListN.{length, getD, set}
-use lib.Seq.{set-out, getD-set-same, getD-set-other}
-use Rattle.station.specs.Fit.{fit}
+use lib.ListN.{getD}
+use lib.Seq.{getD-set-other}
+use Rattle.lists.proofs.Sets.{set-keeps}
+use Rattle.station.specs.Fit.{fit, fitStart}
 use Rattle.station.specs.Rules.{started, crashed}
 use Rattle.station.specs.declared.Station.{Station}
-use Rattle.station.proofs.Fields.{started-slot, crashed-up, fit-starts, fit-crashes}
+use Rattle.station.proofs.Between.{of-start, of-crash}
+use Rattle.station.proofs.Fields.{started-slot, crashed-up}
 use Rattle.station.proofs.Keeps.{start-keeps, crash-keeps}
 use Rattle.election.specs.Commands.{withStation, withDelay, withoutMessages}
 use Rattle.election.specs.System.{noStation, noLink, station, place, from, to, isLink, holding}
 use Rattle.election.specs.declared.Link.{Link}
 use Rattle.election.specs.declared.System.{System}
 use Rattle.election.proofs.InitialSound.{empty-linked}
-use Rattle.election.proofs.Mail.{Posted, Linked}
+use Rattle.election.proofs.Links.{Posted, Linked}
 use Rattle.election.proofs.Places.{In, from-place, to-place, widen, is-link}
 use Rattle.election.proofs.Soundness.{Sound}
-
--- what holds of the entry that was there and of the one that is stored holds of the one that is there then
-pub set-keeps : {A : Type 0} (P : A → Type 0) (l : List A) (i j : ℕ) (v d : A) → (j ≡ i → P v) → P (getD l j d) → P (getD (set l i v) j d)
-set-keeps P l i j v d f p = go (ℕ-discrete j i) (decLt i (length l))
-  where
-    go : Dec (j ≡ i) → Dec (i < length l) → P (getD (set l i v) j d)
-    go (no ne) b = rw (getD-set-other l i j v d ne) p
-    go (yes e) (yes h) = rw (e, getD-set-same l i v d h) (f e)
-    go (yes e) (no h) = rw (set-out l i v (omega arith)) p
 
 -- another sender whose send chance is late enough
 resent : (n period tick : ℕ) (x y : Station) (l : Link) → (y .up ≡ true → tick + period ≤ y .slot) → Linked n period tick x l → Linked n period tick y l
@@ -66,16 +58,19 @@ module _ (s : System) (f : Sound s) (p : ℕ) (h : In (s .n) p) where
         no-link = f .no-link;
       }
 
+  can-start : fitStart p (s .n) (s .period) (s .tick) (station s p) ≡ true
+  can-start = of-start p (s .n) (s .period) (s .tick) (station s p) (f .tick-high) (f .fits p h)
+
   pub start-sound : station s p .incarnation < 4095 → Sound (withStation p (started p (s .n) (s .period) (s .tick) (station s p)) s)
   start-sound few =
       station-sound (started p (s .n) (s .period) (s .tick) (station s p))
-      (start-keeps p (s .n) (s .period) (s .tick) (station s p) (fit-starts p (s .n) (s .period) (s .tick) (station s p) (f .tick-high) (f .fits p h)) few)
+      (start-keeps p (s .n) (s .period) (s .tick) (station s p) can-start few)
       (λ u. omega (arith, started-slot p (s .n) (s .period) (s .tick) (station s p)))
 
   pub crash-sound : station s p .up ≡ true → Sound (withStation p (crashed (station s p)) s)
   crash-sound u =
       station-sound (crashed (station s p))
-      (crash-keeps p (s .n) (s .period) (s .tick) (station s p) (fit-crashes p (s .n) (s .period) (s .tick) (station s p) (f .tick-high) (f .fits p h) u))
+      (crash-keeps p (s .n) (s .period) (s .tick) (station s p) (of-crash p (s .n) (s .period) (s .tick) (station s p) can-start u))
       (λ v. absurd (true≢false (sym v ∙ crashed-up (station s p))))
 
 -- what stands at the link from p to q

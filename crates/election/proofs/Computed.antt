@@ -8,18 +8,22 @@ use Rattle.station.specs.Order.{before}
 use Rattle.station.specs.Rules.{timeoutsOf, started, crashed, joined, adopted, settled, heard, expired, slotted}
 use Rattle.station.specs.Fit.{ranges, keptIn, cleared, countsIn, timeoutsIn, alive, slotIn, timerIn, standing, fit}
 use Rattle.election.specs.System.{messages, holding, fresh, initial}
-use Rattle.election.specs.Tick.{heardLink, heardAll, expiredNow, slottedNow, sending, later, sent, tick, ticks}
-use Rattle.election.specs.Tick.{settled as settledIn}
+use Rattle.election.specs.Tick.{heardLink, heardAll, expiredNow, slottedNow, settled as settledIn, sending, later, sent, tick, ticks}
 use Rattle.election.specs.Sound.{emptyStation, emptyMessage, messageIn, beforeSlot, linkIn, placeIn, stationIn, sound}
 use Rattle.election.specs.Commands.{decode, refusal, perform, command}
 use Rattle.election.specs.Schedule.{follow, schedule}
 use Rattle.election.specs.Listing.{digits, vector, stationLine, stationLines, aLeader, dark, agreed, verdict, listing, reported, lastLine, reports, output}
 use Rattle.election.specs.Rehearsals.{Rehearsed, NoneOfTheErrors}
 
-pub errors-ruled-out : NoneOfTheErrors
+-- every rule, to be unfolded
+rules : Unit {0}
 unfolding countTo upTo over each allTo before timeoutsOf started crashed joined adopted settled heard expired slotted ranges keptIn cleared countsIn timeoutsIn alive slotIn timerIn standing fit messages holding fresh initial heardLink heardAll expiredNow slottedNow settledIn sending later sent tick ticks emptyStation emptyMessage messageIn beforeSlot linkIn placeIn stationIn sound decode refusal perform command follow schedule
-errors-ruled-out = (refl, (refl, (refl, (refl, tt))))
+rules = tt
+
+pub errors-ruled-out : NoneOfTheErrors
+unfolding rules
+errors-ruled-out = ((refl, (refl, (refl, (refl, tt)))), refl, refl)
 
 pub rehearsed : Rehearsed
-unfolding countTo upTo over each allTo before timeoutsOf started crashed joined adopted settled heard expired slotted ranges keptIn cleared countsIn timeoutsIn alive slotIn timerIn standing fit messages holding fresh initial heardLink heardAll expiredNow slottedNow settledIn sending later sent tick ticks emptyStation emptyMessage messageIn beforeSlot linkIn placeIn stationIn sound decode refusal perform command follow schedule digits vector stationLine stationLines aLeader dark agreed verdict listing reported lastLine reports output
+unfolding rules digits vector stationLine stationLines aLeader dark agreed verdict listing reported lastLine reports output
 rehearsed = (refl, (refl, (refl, (refl, (refl, (refl, (refl, (refl, (refl, (refl, tt))))))))))

@@ -1,8 +1,7 @@
 -- The divided ticks of a quiet stretch, counted: F and G of the settling proof.
-use mathlib.Core.Path.{_≡_, refl, sym, ap, _∙_}
+use mathlib.Core.Path.{_≡_, refl, sym, _∙_}
 use mathlib.Core.Logic.{_≢_}
-use mathlib.Core.Bool.{Bool, true, false, cond, not}
-use mathlib.Core.List.{List}
+use mathlib.Core.Bool.{Bool, true, false, cond}
 use Prim.Native.Nat.{ℕ, zero, suc, _+_, _-_, _*_, _≤_, _<_, zero-le}
 use native.Mathlib.Numerals.{add-one}
 use native.Mathlib.Omega.{arith}
@@ -19,10 +18,9 @@ use Rattle.election.specs.declared.Message.{Message}
 use Rattle.election.specs.declared.System.{System}
 use Rattle.election.proofs.Calm.{Stretch, calm-self}
 use Rattle.election.proofs.Follower.{spare}
-use Rattle.election.proofs.Invariant.{Mail, deadline, END, Inv, Fine, soonest-lo, tick-inv, tick-move}
-use Rattle.election.proofs.Places.{In, tick-tick}
+use Rattle.election.proofs.Invariant.{Coming, deadline, END, Inv, Fine, soonest-lo, tick-inv, tick-move}
+use Rattle.election.proofs.Places.{In, seat-in, tick-tick}
 use Rattle.election.proofs.Potential.{tri, potIf, move-pot, pot-top}
-use Rattle.election.proofs.Steps.{sender-in}
 use Rattle.election.proofs.Sums.{sumTo, sum-le, sum-add, sum-short, sum-counted, failed, some-failed}
 
 -- the head at place k trusts L, if it is steady
@@ -42,16 +40,16 @@ abbrev pub pots : Stretch → System → ℕ
 pots K s = sumTo (K .n) (potOf K s)
 
 -- the number of steady heads
-abbrev pub heads : Stretch → ℕ
-heads K = countTo (K .n) (λ k. K .steady (k + 1))
+abbrev pub steadyHeads : Stretch → ℕ
+steadyHeads K = countTo (K .n) (λ k. K .steady (k + 1))
 
 abbrev pub top : Stretch → ℕ
-top K = (heads K - 1) * tri (K .d - 2)
+top K = (steadyHeads K - 1) * tri (K .d - 2)
 
 deadline-lo : (K : Stretch) (s : System) → Inv K s → (p : ℕ) → In (K .n) p → p ≢ K .L → K .steady p ≡ true → s .tick < deadline K s p
 deadline-lo K s h p ip pL u =
     soonest-lo (underway s (K .L) p) (s .tick) (station s (K .L) .slot + K .d)
-    (all-map (Mail K (s .tick) (K .L)) (λ (m : Message). s .tick < m .due) (λ m f. f .ahead) (underway s (K .L) p) (h .mail (K .L) p (K .L-in) ip (λ e. pL (sym e)) u)) (omega (arith, h .next-lo))
+    (all-map (Coming K (s .tick) (K .L)) (λ (m : Message). s .tick < m .due) (λ m f. f .ahead) (underway s (K .L) p) (h .mail (K .L) p (K .L-in) ip (λ e. pL (sym e)) u)) (omega (arith, h .next-lo))
 
 module _ (K : Stretch) (s : System) (h : Inv K s) (fine : Fine K s) (room : s .tick < 1000000) (past : END K ≤ s .tick) where
   -- for one head: a divided tick costs it 1 at least, and no tick adds to it
@@ -62,7 +60,7 @@ module _ (K : Stretch) (s : System) (h : Inv K s) (fine : Fine K s) (room : s .t
       p = k + 1
 
       ip : In (K .n) (k + 1)
-      ip = sender-in (K .n) k l
+      ip = seat-in (K .n) k l
 
       inv′ : Inv K (tick s)
       inv′ = tick-inv K s h fine room
@@ -114,7 +112,7 @@ less-one x (suc k) T h = let e : suc k - 1 ≡ k = omega arith in rw e (omega ar
 
 pub pots-top : (K : Stretch) (s : System) → Inv K s → END K ≤ s .tick → pots K s ≤ top K
 pots-top K s h past =
-    less-one (pots K s) (heads K) T
+    less-one (pots K s) (steadyHeads K) T
     (rw (← sum-counted (K .n) T (λ k. K .steady (k + 1)))
     (omega (arith, rw flag-L at (sum-short (K .n) (K .L - 1) (potOf K s) (λ k. cond (K .steady (k + 1)) T 0) each zero-L (omega (arith, K .L-in .low, K .L-in .high))))))
   where
@@ -134,7 +132,7 @@ pots-top K s h past =
     each k l = go (K .steady (k + 1)) refl
       where
         ip : In (K .n) (k + 1)
-        ip = sender-in (K .n) k l
+        ip = seat-in (K .n) k l
 
         go : (b : Bool) → K .steady (k + 1) ≡ b
             → cond b (cond (eqb (k + 1) (K .L)) 0 (potIf (K .d) (s .tick) (spare K (station s (k + 1))) (deadline K s (k + 1)) (eqb (station s (k + 1) .leader) (K .L)))) 0 ≤ cond b T 0

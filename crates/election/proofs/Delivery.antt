@@ -2,7 +2,7 @@
 use mathlib.Core.Path.{_≡_, refl, ap, subst, _∙_}
 use mathlib.Core.Logic.{_≢_}
 use mathlib.Core.Logic._⊎_.{inl, inr}
-use mathlib.Core.List.{List, [], _∷_}
+use mathlib.Core.List.{List, []}
 use mathlib.Core.Bool.{Bool, true, false, cond}
 use Prim.Native.Nat.{ℕ, zero, suc, _+_, _-_, _<_, _≤_, min}
 use native.Mathlib.Decide.{ℕ-discrete}
@@ -10,19 +10,18 @@ use native.Mathlib.Omega.{arith}
 use lib.Dec.{eqb}
 use borrow.Author.Tests.{eqb-true}
 use Rattle.lists.specs.Fold.{each}
-use Rattle.lists.proofs.Fold.{each-keeps}
 use Rattle.station.specs.Fit.{fit, flight, fitMessage, fitHear}
 use Rattle.station.specs.Rules.{heard}
 use Rattle.station.specs.declared.Station.{Station}
-use Rattle.station.proofs.Fields.{heard-slot}
 use Rattle.station.proofs.Handed.{hearing-of, of-message}
 use Rattle.station.proofs.Keeps.{During, Next, fit-during, fit-hears, heard-during, hear-keeps}
 use Rattle.station.proofs.Tests.{counts-of}
-use Rattle.election.specs.Tick.{heardLink, heardAll}
+use Rattle.election.specs.Tick.{heardLink}
 use Rattle.election.specs.declared.Message.{Message}
-use Rattle.election.proofs.Mail.{Posted}
-use Rattle.election.proofs.Places.{In}
+use Rattle.election.proofs.Links.{Posted}
+use Rattle.election.proofs.Places.{In, seat-in}
 use Rattle.election.proofs.Spaced.{Spaced, none, more}
+use Rattle.election.proofs.Steps.{heard-none}
 
 -- station me in the tick now, when the messages of q and of all below are done: every sender above can be heard
 pub record Ready (me n period now q : ℕ) (x : Station) : Type 0 where
@@ -48,11 +47,6 @@ module _ (me n period now q : ℕ) where
 -- senders that are done stay done
 pub ready-rises : (me n period now k q : ℕ) (x : Station) → k ≤ q → Ready me n period now k x → Ready me n period now q x
 ready-rises me n period now k q x h a = record { during = a .during; above = λ q′ v l m. a .above q′ v (omega arith) m }
-
--- no message changes nothing
-pub heard-none : (me q now : ℕ) (ms : List Message) (x : Station) → ms ≡ [] → heardLink me q now ms x ≡ x
-unfolding heardLink
-heard-none me q now ms x e = rw e
 
 -- the messages of one sender
 module _ (me n period tick q : ℕ) (sender : Station) (hq : In n q) (other : q ≢ me) where
@@ -117,14 +111,9 @@ module _ (me n period tick : ℕ) (sender : ℕ → Station) (inbox : ℕ → Li
       at (yes e) r =
           rw (heard-none me (j + 1) (tick + 1) (inbox (j + 1)) y (ap inbox e ∙ none-own)) (ready-rises me n period (tick + 1) j (suc j) y (omega arith) r)
       at (no e) r =
-          let i : In n (j + 1) = record { low = omega arith; high = omega arith } in
+          let i : In n (j + 1) = seat-in n j (omega arith) in
           ready-rises me n period (tick + 1) (j + 1) (suc j) _ (omega arith)
           (hears-link me n period tick (j + 1) (sender (j + 1)) i e j 0 (inbox (j + 1)) y (omega arith) (mail (j + 1) i e) r)
-
-  -- so the tick goes on
-  pub hears-all : (x : Station) → Ready me n period (tick + 1) 0 x → During me n period (tick + 1) (heardAll n me (tick + 1) inbox x)
-  unfolding heardAll
-  hears-all x a = hears-below n x (omega arith) a .during
 
 -- a station at the end of the tick before
 pub fit-ready : (me n period tick : ℕ) (x : Station) → tick < 1000000 → fit me n period tick x ≡ true → x .up ≡ true → Ready me n period (tick + 1) 0 x
@@ -134,20 +123,3 @@ fit-ready me n period tick x h e u =
       during = fit-during me n period (tick + 1) x (omega arith) (omega arith) f u;
       above = λ q v l m. fit-hears me n period (tick + 1) x q v (omega arith) (omega arith) f u m;
     }
-
--- hearing leaves the send chance
-pub heardLink-slot : (me q now : ℕ) (ms : List Message) (x : Station) → heardLink me q now ms x .slot ≡ x .slot
-unfolding heardLink
-heardLink-slot me q now [] x = refl
-heardLink-slot me q now (m ∷ ms) x =
-    heardLink-slot me q now ms (cond (eqb (m .due) now) (heard me q (m .counts) now x) x) ∙ at (eqb (m .due) now)
-  where
-    at : (b : Bool) → cond b (heard me q (m .counts) now x) x .slot ≡ x .slot
-    at true = heard-slot me q now (m .counts) x
-    at false = refl
-
-pub heardAll-slot : (n me now : ℕ) (inbox : ℕ → List Message) (x : Station) → heardAll n me now inbox x .slot ≡ x .slot
-unfolding heardAll
-heardAll-slot n me now inbox x =
-    each-keeps (λ (y : Station). y .slot ≡ x .slot) n (λ k. heardLink me (k + 1) now (inbox (k + 1))) x
-    (λ k y h e. heardLink-slot me (k + 1) now (inbox (k + 1)) y ∙ e) refl

@@ -1,46 +1,43 @@
 -- Demand 3, from the schedule's bytes and a list of byte strings.
 use mathlib.Core.Path.{_≡_, refl, sym, ap, subst, _∙_}
-use mathlib.Core.Logic.{_≢_, _⊎_}
+use mathlib.Core.Logic.{_⊎_}
 use mathlib.Core.Logic._⊎_.{inl, inr}
-use mathlib.Core.Bool.{Bool, true, false, cond, not, true≢false}
-use mathlib.Core.List.{List, [], _∷_, _++_}
+use mathlib.Core.Bool.{Bool, true, false, cond, true≢false}
+use mathlib.Core.List.{List, [], _∷_}
 use Prim.Native.Nat.{ℕ, zero, suc, _+_, _-_, _*_, _/_, _≤_, _<_}
 use native.Mathlib.Decide.{ℕ-discrete}
 use native.Mathlib.Nat.{zero-add}
 use native.Mathlib.Omega.{arith}
 use lib.Dec.{eqb, ltb}
-use lib.ListN.{length, getD, take, drop}
-use borrow.Author.Tests.{eqb-true, eqb-false, eq-eqb, ne-eqb, lt-ltb}
-use Rattle.lists.specs.Count.{countTo}
-use Rattle.lists.specs.Entries.{upTo}
+use lib.ListN.{length, take, drop}
+use borrow.Author.Tests.{not-false, eqb-true, eq-eqb}
 use Rattle.lists.specs.Every.{All}
 use Rattle.lists.specs.First.{firstFailed}
 use Rattle.lists.proofs.Bools.{cond-elim}
-use Rattle.lists.proofs.Entries.{getD-upTo}
 use Rattle.lists.proofs.Every.{all-append}
 use Rattle.lists.proofs.Test.{all-at}
 use Rattle.station.specs.declared.Station.{Station}
-use Rattle.election.specs.Commands.{Command, SetUp, Start, Crash, Link, Run, Lose, Report, Result, decode, operands, tests, ruling, refusal, perform, command}
+use Rattle.election.specs.Commands.{Command, SetUp, Start, Crash, Link, Run, Lose, Report, decode, operands, tests, ruling, refusal, perform, command}
 use Rattle.election.specs.Listing.{agreed}
 use Rattle.election.specs.Schedule.{End, mostBytes, follow, schedule}
-use Rattle.election.specs.Settling
-use Rattle.election.specs.Settling.{accepted, after, history, commands, starts, isUp, First, moments, ticksOf, befores, divided, dividedTicks, Permitted, Each, Quiet, upHeads, bound, answered, given, reached, Settles, Settling}
+use Rattle.election.specs.Settling.{accepted, after, history, commands, starts, isUp, moments, ticksOf, befores, divided, dividedTicks, Quiet, upHeads, bound, answered, given, reached, Settling}
 use Rattle.election.specs.Sound.{sound}
-use Rattle.election.specs.System.{noStation, station, fresh, initial, unstarted}
-use Rattle.election.specs.Tick.{sending, tick, ticks}
+use Rattle.election.specs.System.{station, fresh, initial}
+use Rattle.election.specs.Tick.{sending, tick}
 use Rattle.election.specs.declared.System.{System}
 use Rattle.election.proofs.Accepting.{Accepts, accepts, ruling-tests}
 use Rattle.election.proofs.Calm.{Stretch}
-use Rattle.election.proofs.Counting.{top, heads, Budget}
+use Rattle.election.proofs.Follow.{follow-yes, follow-no}
 use Rattle.election.proofs.Follower.{slot-leader}
-use Rattle.election.proofs.Invariant.{END}
+use Rattle.election.proofs.InitialSound.{initial-ready, initial-n, initial-station}
 use Rattle.election.proofs.Places.{In, tick-station, tick-n}
 use Rattle.election.proofs.Potential.{tri, tri-double}
-use Rattle.election.proofs.Reached.{counts, Reached, sending-of, tick-up}
+use Rattle.election.proofs.Reached.{counts, Reached}
 use Rattle.election.proofs.Reaching.{Arrived, perform-arrived, fresh-arrived}
-use Rattle.election.proofs.Settled.{FirstUp, from-here, begin-inv}
+use Rattle.election.proofs.Begins.{FirstUp, from-here, begin-inv}
+use Rattle.election.proofs.Steps.{sending-of, tick-up}
 use Rattle.election.proofs.Tied.{Allowed, Tied, tied, ready-after}
-use Rattle.election.proofs.Walk.{after-yes, after-no, befores-yes, befores-no, walk}
+use Rattle.election.proofs.Walk.{after-yes, walk}
 
 -- In a sound system Command is the rules.
 module _ (s : System) (bytes : List ℕ) (e : sound s ≡ true) where
@@ -69,26 +66,22 @@ answers (suc k) (e ∷ es) s h =
     ap (answered (take k es)) (rules-system s e (h .is-sound)) ∙ answers k es (after s e) (after-arrived s e h)
 
 -- At the end of a tick that isn't divided, whoever sent in it is L.
-silent-tick : (L : ℕ) (x : System) → x .n ≤ 8 → divided L (tick x) ≡ false → (p : ℕ) → 1 ≤ p → p ≤ x .n → sending x p ≡ true → p ≡ L
+abbrev Silent : ℕ → System → Type 0
+Silent L x = divided L (tick x) ≡ false → (p : ℕ) → 1 ≤ p → p ≤ x .n → sending x p ≡ true → p ≡ L
+
+silent-tick : (L : ℕ) (x : System) → x .n ≤ 8 → Silent L x
 unfolding agreed
 silent-tick L x small e p low high t =
     let ip : In (x .n) p = record { low = low; high = high } in
     let (u, sl, l) = sending-of x p t in
     let back : p - 1 + 1 ≡ p = omega arith in
-    let all : agreed (tick x) L ≡ true = not-not (agreed (tick x) L) e in
+    let all : agreed (tick x) L ≡ true = not-false (agreed (tick x) L) e in
     let at : cond (station (tick x) (p - 1 + 1) .up) (eqb (station (tick x) (p - 1 + 1) .leader) L) true ≡ true =
     all-at (tick x .n) (p - 1) (λ k. cond (station (tick x) (k + 1) .up) (eqb (station (tick x) (k + 1) .leader) L) true) all (omega (arith, tick-n x)) in
     let up : station (tick x) p .up ≡ true = tick-up x small p ip ∙ u in
     let f : eqb (station (tick x) p .leader) L ≡ true = ap (λ b. cond b (eqb (station (tick x) p .leader) L) true) (sym up) ∙ rw back at at in
     let leads : station (tick x) p .leader ≡ p = ap (λ (y : Station). y .leader) (tick-station x small p ip) ∙ slot-leader (x .period) (x .tick + 1) _ ∙ l in
     sym leads ∙ eqb-true _ _ f
-  where
-    not-not : (b : Bool) → not b ≡ false → b ≡ true
-    not-not true g = refl
-    not-not false g = absurd (true≢false g)
-
-abbrev Silent : ℕ → System → Type 0
-Silent L x = divided L (tick x) ≡ false → (p : ℕ) → 1 ≤ p → p ≤ x .n → sending x p ≡ true → p ≡ L
 
 silent-run : (L t : ℕ) (x : System) → x .n ≤ 8 → All (Silent L) (moments t x)
 unfolding moments
@@ -148,18 +141,9 @@ pub record Followed (fuel : ℕ) (s : System) (bytes : List ℕ) (end : End) : T
   pub allowed : Allowed (history fuel s bytes) s
   pub arrived : Arrived (end .system)
 
-module _ (fuel : ℕ) (s : System) (at b : ℕ) (bytes : List ℕ) where
-  follow-yes : command s (b ∷ bytes) .refusal ≡ 0 → follow (suc fuel) s at (b ∷ bytes) ≡ follow fuel (command s (b ∷ bytes) .system) (at + command s (b ∷ bytes) .length) (drop (command s (b ∷ bytes) .length) (b ∷ bytes))
-  unfolding follow
-  follow-yes t = rw (eq-eqb (command s (b ∷ bytes) .refusal) 0 t, follow)
-
-  follow-no : command s (b ∷ bytes) .refusal ≢ 0 → follow (suc fuel) s at (b ∷ bytes) .refusal ≡ command s (b ∷ bytes) .refusal
-  unfolding follow
-  follow-no ne = rw (ne-eqb (command s (b ∷ bytes) .refusal) 0 ne, follow)
-
-  history-yes : ruling s (b ∷ bytes) ≡ 0 → history (suc fuel) s (b ∷ bytes) ≡ decode (b ∷ bytes) ∷ history fuel (perform (decode (b ∷ bytes)) s) (drop (1 + operands (decode (b ∷ bytes))) (b ∷ bytes))
-  unfolding history
-  history-yes t = rw (eq-eqb (ruling s (b ∷ bytes)) 0 t, history)
+history-yes : (fuel : ℕ) (s : System) (b : ℕ) (bytes : List ℕ) → ruling s (b ∷ bytes) ≡ 0 → history (suc fuel) s (b ∷ bytes) ≡ decode (b ∷ bytes) ∷ history fuel (perform (decode (b ∷ bytes)) s) (drop (1 + operands (decode (b ∷ bytes))) (b ∷ bytes))
+unfolding history
+history-yes fuel s b bytes t = rw (eq-eqb (ruling s (b ∷ bytes)) 0 t, history)
 
 pub followed : (fuel : ℕ) (s : System) (at : ℕ) (bytes : List ℕ) → Arrived s → follow fuel s at bytes .refusal ≡ 0 → Followed fuel s bytes (follow fuel s at bytes)
 unfolding follow history reached
@@ -180,8 +164,8 @@ followed (suc fuel) s at (b ∷ bytes) h e = go (ℕ-discrete (command s (b ∷ 
         let eq : follow (suc fuel) s at (b ∷ bytes) ≡ follow fuel (perform (decode (b ∷ bytes)) s) (at + (1 + operands (decode (b ∷ bytes)))) (drop (1 + operands (decode (b ∷ bytes))) (b ∷ bytes)) =
         follow-yes fuel s at b bytes t ∙ rw (y, l) in
         let r = rest (perform (decode (b ∷ bytes)) s) (at + (1 + operands (decode (b ∷ bytes)))) (drop (1 + operands (decode (b ∷ bytes))) (b ∷ bytes)) (perform-arrived (decode (b ∷ bytes)) s ok h) (ap (λ (z : End). z .refusal) (sym eq) ∙ e) in
-        rw (eq)
-        (record { system = r .system ∙ ap (λ (cs : List Command). reached cs s) (sym (history-yes fuel s at b bytes t′)); allowed = rw (history-yes fuel s at b bytes t′) (ok, r .allowed); arrived = r .arrived })
+        rw eq
+        (record { system = r .system ∙ ap (λ (cs : List Command). reached cs s) (sym (history-yes fuel s b bytes t′)); allowed = rw (history-yes fuel s b bytes t′) (ok, r .allowed); arrived = r .arrived })
 
 -- From the fresh system: counts are starts, and who is up is told by the latest start or crash.
 pub record FromFresh (cs : List Command) (r : System) : Type 0 where
@@ -189,19 +173,13 @@ pub record FromFresh (cs : List Command) (r : System) : Type 0 where
   pub latest : (x : ℕ) → In (r .n) x → station r x .up ≡ isUp false x cs
   pub is-ready : (x : ℕ) → In (r .n) x → r .ready ≡ true
 
-initial-station : (n period : ℕ) → n ≤ 8 → (x : ℕ) → In n x → station (initial n period) x ≡ unstarted x
-unfolding initial
-initial-station n period small x ix =
-    let e : x - 1 + 1 ≡ x = omega (arith, ix .low) in
-    getD-upTo 8 (λ k. unstarted (cond (ltb k n) (k + 1) 0)) (x - 1) noStation (omega (arith, ix .low, ix .high)) ∙ rw (lt-ltb (x - 1) n (omega (arith, ix .low, ix .high)), e)
-
-from-initial : (n period : ℕ) (cs : List Command) → n ≤ 8 → Arrived (initial n period) → initial n period .ready ≡ true → initial n period .n ≡ n → Allowed cs (initial n period)
+from-initial : (n period : ℕ) (cs : List Command) → n ≤ 8 → Arrived (initial n period) → Allowed cs (initial n period)
     → reached cs (initial n period) .ready ≡ true → FromFresh (SetUp n period ∷ cs) (reached cs (initial n period))
 unfolding starts isUp
-from-initial n period cs small h r en a ready =
-    let t : Tied cs (initial n period) (reached cs (initial n period)) = tied cs (initial n period) r h a in
+from-initial n period cs small h a ready =
+    let t : Tied cs (initial n period) (reached cs (initial n period)) = tied cs (initial n period) (initial-ready n period) h a in
     let inside : (x : ℕ) → In (reached cs (initial n period) .n) x → In (initial n period .n) x = λ x ix. rw (← t .same-n) ix in
-    let inside′ : (x : ℕ) → In (reached cs (initial n period) .n) x → In n x = λ x ix. subst (λ m. In m x) (t .same-n ∙ en) ix in
+    let inside′ : (x : ℕ) → In (reached cs (initial n period) .n) x → In n x = λ x ix. subst (λ m. In m x) (t .same-n ∙ initial-n n period) ix in
     record {
       counted = λ x ix. t .counted x (inside x ix) ∙ ap (λ (y : Station). y .incarnation + starts x cs) (initial-station n period small x (inside′ x ix)) ∙ zero-add (starts x cs);
       latest = λ x ix. t .latest x (inside x ix) ∙ ap (λ (y : Station). isUp (y .up) x cs) (initial-station n period small x (inside′ x ix));
@@ -222,16 +200,11 @@ unready : fresh .ready ≡ true → ⊥
 unfolding fresh
 unready e = true≢false (sym e)
 
-initial-ready : (n period : ℕ) → (initial n period .ready ≡ true) × (initial n period .n ≡ n)
-unfolding initial
-initial-ready n period = (refl, refl)
-
 -- so its first command is a set up
 first-command : (c : Command) (cs : List Command) → firstFailed (tests fresh c) ≡ 0 → Accepts c fresh → Allowed cs (perform c fresh) → FromFresh (c ∷ cs) (reached cs (perform c fresh))
 unfolding perform
 first-command (SetUp n period) cs t (r, a, b, c, d) ok =
-    let (x, y) = initial-ready n period in
-    from-initial n period cs b (perform-arrived (SetUp n period) fresh t fresh-arrived) x y ok (reached-ready cs (initial n period) x ok)
+    from-initial n period cs b (perform-arrived (SetUp n period) fresh t fresh-arrived) ok (reached-ready cs (initial n period) (initial-ready n period) ok)
 first-command (Start p) cs t (r, i, d, k) ok = absurd (unready r)
 first-command (Crash p) cs t (r, i, d) ok = absurd (unready r)
 first-command (Link p q d) cs t (r, i, j, k, l) ok = absurd (unready r)
@@ -245,7 +218,7 @@ from-fresh [] a = record { counted = λ x ix. absurd (nobody x ix); latest = λ 
 from-fresh (c ∷ cs) (t, a) = first-command c cs t (accepts c fresh t) a
 
 -- An accepted schedule, followed.
-accepted-schedule : (bytes : List ℕ) → schedule bytes .refusal ≡ 0 → Followed (length bytes) fresh bytes (schedule bytes)
+pub accepted-schedule : (bytes : List ℕ) → schedule bytes .refusal ≡ 0 → Followed (length bytes) fresh bytes (schedule bytes)
 unfolding schedule
 accepted-schedule bytes e = go (ltb mostBytes (length bytes)) e
   where
@@ -267,11 +240,8 @@ settling bytes stretch d L ok first quiet =
       is-up = g .latest L i ∙ first .is-up;
       fewest = λ p ip v ne. same (counts s L) (counts s p) L p (g .counted L i) (g .counted p ip) (first .fewest p (ip .low) (ip .high) (sym (g .latest p ip) ∙ v) ne);
     } in
-    (record { few = few d L stretch s h u quiet; silent = quiet-ends L stretch s (f .arrived); answers = λ k. answers k stretch s (f .arrived) }, f .system)
+    (record { few = few d L stretch s h u quiet; silent = silent L stretch s (f .arrived); answers = λ k. answers k stretch s (f .arrived) }, f .system)
   where
     same : (a b x y : ℕ) {a′ b′ : ℕ} → a ≡ a′ → b ≡ b′ → (a′ < b′) ⊎ ((a′ ≡ b′) × (x < y)) → (a < b) ⊎ ((a ≡ b) × (x < y))
     same a b x y e f (inl l) = inl (omega arith)
     same a b x y e f (inr l) = inr (e ∙ l .0 ∙ sym f, l .1)
-
-    quiet-ends : (L : ℕ) (es : List (List ℕ)) (x : System) → Arrived x → All (λ y. divided L (tick y) ≡ false → (p : ℕ) → 1 ≤ p → p ≤ y .n → sending y p ≡ true → p ≡ L) (befores es x)
-    quiet-ends L es x a = silent L es x a

@@ -11,16 +11,15 @@ use lib.Seq.{ext-getD, getD-set-same, getD-set-other}
 use lib.Dec.{ltb, eqb}
 use borrow.Author.Tests.{ltb-true, eqb-true, eqb-false, not-true}
 use Rattle.lists.proofs.Bools.{both}
+use Rattle.lists.proofs.Count.{Once, one-counted}
 use Rattle.station.specs.Order.{entry}
 use Rattle.station.specs.Rules.{other, joined, trusting, heard, expired}
 use Rattle.station.specs.Fit.{longest, fit, timeoutsAt}
 use Rattle.station.specs.declared.Station.{Station}
-use Rattle.station.proofs.Candidates.{keyOf}
 use Rattle.station.proofs.Elimination.{heard-elim, expired-elim}
 use Rattle.station.proofs.Handed.{JustSet, InTick, Ended}
 use Rattle.station.proofs.Tests.{Ranges, Kept, Timeouts, Alive, Standing, of-fit}
 use Rattle.station.proofs.Vectors.{joined-at, length-joined, zeros-at}
-use Rattle.election.proofs.Once.{Once, one-counted}
 
 -- counts joined with zeros are the counts
 pub joined-zeros : (v : List ℕ) → length v ≡ 8 → joined v (replicate 8 0) ≡ v
@@ -42,19 +41,13 @@ module _ (me n period now : ℕ) (x : Station) (r : Ranges me n period) (st : St
       })
       (record { off = λ e. refl; on = λ ne. absurd (ne refl) })
 
-  module _ (j : JustSet me now x) where
-    pub leader-other : x .leader ≢ me
-    leader-other e =
-        let y : keyOf (x .recovered) (x .leader) ≡ keyOf (x .recovered) me = ap (keyOf (x .recovered)) e in
-        omega (arith, j .first)
-
-    -- and hearing the leader made it what it is
-    pub leader-heard : length (x .recovered) ≡ 8 → heard me (x .leader) (replicate 8 0) now (trusting me 0 x) ≡ x
-    leader-heard e =
-        heard-elim (λ y. y ≡ x) me (x .leader) now (replicate 8 0) (trusting me 0 x) (x .recovered) (omega (arith, r .me-high, r .n-high)) (omega (arith, st .living .leader-high, r .n-high)) (omega (arith, r .me-high, r .n-high)) (joined-zeros (x .recovered) e)
-        (λ a b. ap (λ t. trusting (x .leader) t x) (sym (j .ends)))
-        (λ a b. absurd (omega arith))
-        (λ a b. absurd (omega (arith, j .first)))
+  -- and hearing the leader made it what it is
+  pub leader-heard : JustSet me now x → length (x .recovered) ≡ 8 → heard me (x .leader) (replicate 8 0) now (trusting me 0 x) ≡ x
+  leader-heard j e =
+      heard-elim (λ y. y ≡ x) me (x .leader) now (replicate 8 0) (trusting me 0 x) (x .recovered) (omega (arith, r .me-high, r .n-high)) (omega (arith, st .living .leader-high, r .n-high)) (omega (arith, r .me-high, r .n-high)) (joined-zeros (x .recovered) e)
+      (λ a b. ap (λ t. trusting (x .leader) t x) (sym (j .ends)))
+      (λ a b. absurd (omega arith))
+      (λ a b. absurd (omega (arith, j .first)))
 
 -- one timeout alone is at the highest
 timeouts-once : (high : ℕ) (t : List ℕ) → timeoutsAt high t ≡ 1 → Once 8 (λ k. eqb (getD t k 0) high)

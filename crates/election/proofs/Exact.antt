@@ -18,13 +18,13 @@ use Rattle.election.specs.System.{station, underway}
 use Rattle.election.specs.Tick.{next, heardLink, heardAll, settled}
 use Rattle.election.specs.declared.Message.{Message}
 use Rattle.election.specs.declared.System.{System}
-use Rattle.election.proofs.Delivery.{Ready, posted-fits, hears-below, fit-ready}
+use Rattle.election.proofs.Delivery.{Ready, posted-fits}
 use Rattle.election.proofs.Handing.{start-handed, crash-handed, hear-handed, expire-handed, slot-handed}
-use Rattle.election.proofs.Mail.{Posted}
+use Rattle.election.proofs.Links.{Posted}
 use Rattle.election.proofs.Places.{In}
-use Rattle.election.proofs.Soundness.{Sound, sound-of, underway-spaced, underway-self}
+use Rattle.election.proofs.Soundness.{Sound, sound-of, underway-spaced}
 use Rattle.election.proofs.Spaced.{Spaced, spaced-here, spaced-older}
-use Rattle.election.proofs.StationTick.{heard-timely, settled-timed}
+use Rattle.election.proofs.StationTick.{heard-below, heard-timely, settled-timed}
 use Rattle.election.proofs.Steps.{link-keeps}
 
 -- a system that holds station me
@@ -77,8 +77,8 @@ module _ (me n period now : ℕ) (s : System) (r : Runs me n period now s) where
   sound-before : Sound s
   sound-before = holds-sound me n period (now - 1) s (r .holds)
 
-  early : s .tick < 1000000
-  early = omega (arith, r .low, r .high, r .holds .same-tick)
+  in-time : s .tick < 1000000
+  in-time = omega (arith, r .low, r .high, r .holds .same-tick)
 
   me-in : In (s .n) me
   me-in = holds-in me n period (now - 1) s (r .holds)
@@ -98,11 +98,7 @@ module _ (me n period now : ℕ) (s : System) (r : Runs me n period now s) where
       → fitHear me n period now q (m .counts) (afterOlder now q older) ≡ true
   hands-hear q older m younger hq ne e =
       let x : Station = each (q - 1) (λ k. heardLink me (k + 1) (next s) (underway s (k + 1) me)) (station s me) in
-      let a : Ready me (s .n) (s .period) (next s) (q - 1) x =
-      hears-below me (s .n) (s .period) (s .tick) (λ i. station s i) (λ i. underway s i me) (λ i hi ni. underway-spaced s sound-before i me hi me-in ni) (underway-self s sound-before me me-in) (q - 1) (station s me)
-      (omega (arith, hq .high))
-      (fit-ready me (s .n) (s .period) (s .tick) (station s me) early (sound-before .fits me me-in) (r .is-up))
-      in
+      let a : Ready me (s .n) (s .period) (next s) (q - 1) x = heard-below s sound-before in-time me me-in (r .is-up) (q - 1) (omega (arith, hq .high)) in
       with-given (λ a b c. fitHear me a b c q (m .counts) (afterOlder c q older) ≡ true)
       (hears-after me (s .n) (s .period) (s .tick) q (station s q) hq ne older m younger
       (subst (Spaced (Posted (s .n) (s .period) (s .tick) (station s q)) (s .period) 0) e (underway-spaced s sound-before q me hq me-in ne))
@@ -111,12 +107,12 @@ module _ (me n period now : ℕ) (s : System) (r : Runs me n period now s) where
   pub hands-expire : afterHearing n now .timer ≡ now → fitExpire me n period now (afterHearing n now) ≡ true
   hands-expire =
       with-given (λ a b c. afterHearing a c .timer ≡ c → fitExpire me a b c (afterHearing a c) ≡ true)
-      (during-expires me (s .n) (s .period) (next s) (afterHearing (s .n) (next s)) (heard-timely s sound-before early me me-in (r .is-up)))
+      (during-expires me (s .n) (s .period) (next s) (afterHearing (s .n) (next s)) (heard-timely s sound-before in-time me me-in (r .is-up)))
 
   pub hands-slot : settled s me .slot ≡ now → fitSlot me n period now (settled s me) ≡ true
   hands-slot =
       with-given (λ a b c. settled s me .slot ≡ c → fitSlot me a b c (settled s me) ≡ true)
-      (settled-timed s sound-before early me me-in (r .is-up) .slots)
+      (settled-timed s sound-before in-time me me-in (r .is-up) .slots)
 
 -- so whatever is handed fits
 module _ (me n period now : ℕ) where

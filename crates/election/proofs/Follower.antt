@@ -2,13 +2,12 @@
 use mathlib.Core.Path.{_≡_, refl, sym, ap, _∙_}
 use mathlib.Core.Logic.{_≢_, _⊎_}
 use mathlib.Core.Logic._⊎_.{inl, inr}
-use mathlib.Core.Bool.{Bool, true, false}
+use mathlib.Core.Bool.{true}
 use mathlib.Core.List.{List, [], _∷_}
 use Prim.Native.Nat.{ℕ, zero, suc, _+_, _-_, _*_, _≤_, _<_}
-use native.Mathlib.Numerals.{add-one}
 use native.Mathlib.Omega.{arith}
 use native.Mathlib.Decide.{ℕ-discrete}
-use lib.ListN.{length, getD}
+use lib.ListN.{length}
 use lib.Dec.{eqb}
 use borrow.Author.Tests.{eqb-true, eqb-false, eq-eqb, ne-eqb}
 use Rattle.lists.specs.Every.{All}
@@ -17,16 +16,17 @@ use Rattle.lists.proofs.Bools.{cond-elim}
 use Rattle.lists.proofs.Every.{all-map}
 use Rattle.lists.proofs.Fold.{each-keeps}
 use Rattle.station.specs.Order.{entry}
-use Rattle.station.specs.Rules.{heard, expired}
+use Rattle.station.specs.Rules.{heard}
 use Rattle.station.specs.declared.Station.{Station}
+use Rattle.station.proofs.Candidates.{key}
 use Rattle.station.proofs.Elimination.{expired-elim}
 use Rattle.station.proofs.Unchanged.{heard-timeouts}
 use Rattle.election.specs.Tick.{heardLink, heardAll, expiredNow, slottedNow}
 use Rattle.election.specs.declared.Message.{Message}
-use Rattle.election.proofs.Calm.{Sane, Stretch, keyL, Calm, Fair, hear-calm, expire-calm, slot-calm, due-place, Trusts, hear-L, hear-other, hear-not}
-use Rattle.election.proofs.Places.{In}
+use Rattle.election.proofs.Calm.{Stretch, keyL, Calm, Fair, hear-calm, expire-calm, slot-calm, due-place, Trusts, hear-L, hear-other, hear-not}
+use Rattle.election.proofs.Places.{In, seat-in}
 use Rattle.election.proofs.Potential.{Move, heard as hears, runs, ends, waits, soon}
-use Rattle.election.proofs.Steps.{expiredNow-elim, slottedNow-elim, link-keeps, sender-in, all-keeps}
+use Rattle.election.proofs.Steps.{expiredNow-elim, slottedNow-elim, link-keeps, all-keeps}
 
 -- A message of the list is due now.
 pub data Due (now : ℕ) : List Message → Type 0 where
@@ -61,7 +61,7 @@ pub record Lost (K : Stretch) (p b : ℕ) (w : List ℕ) (x : Station) : Type 0 
 abbrev pub FairTo : Stretch → ℕ → ℕ → ℕ → List Message → Type 0
 FairTo K p now q ms = All (λ (m : Message). m .due ≡ now → (q ≢ p) × Fair K now q (m .counts)) ms
 
-module _ (K : Stretch) (p now : ℕ) (ip : In (K .n) p) (Sp : K .steady p ≡ true) (least : keyL K ≤ 16 * K .C p + p) where
+module _ (K : Stretch) (p now : ℕ) (ip : In (K .n) p) (Sp : K .steady p ≡ true) (least : keyL K ≤ key (K .C p) p) where
   pub hear-waits : (w : List ℕ) (q : ℕ) (v : List ℕ) (x : Station) → In (K .n) q → (q ≢ p) × Fair K now q v → Waits K p now w x → Waits K p now w (heard p q v now x)
   hear-waits w q v x iq f h = record { calm = hear-calm K p ip Sp least now q v x iq (f .0) (f .1) (h .calm); same = heard-timeouts p q v now x ∙ h .same }
 
@@ -110,7 +110,7 @@ module _ (K : Stretch) (p now : ℕ) (ip : In (K .n) p) (Sp : K .steady p ≡ tr
       unfolding step
       first-waits m x top h =
           each-keeps (Waits K p now w) m step x
-          (λ k y l r. link-keeps (Waits K p now w) (λ v. (k + 1 ≢ p) × Fair K now (k + 1) v) p now (k + 1) (λ v z. hear-waits w (k + 1) v z (sender-in (K .n) k (omega arith))) (inbox (k + 1)) y (fair (k + 1) (sender-in (K .n) k (omega arith))) r) h
+          (λ k y l r. link-keeps (Waits K p now w) (λ v. (k + 1 ≢ p) × Fair K now (k + 1) v) p now (k + 1) (λ v z. hear-waits w (k + 1) v z (seat-in (K .n) k (omega arith))) (inbox (k + 1)) y (fair (k + 1) (seat-in (K .n) k (omega arith))) r) h
 
       first-hit : Due now (inbox (K .L)) → (m : ℕ) (x : Station) → K .L ≤ m → m ≤ K .n → Waits K p now w x → Heard K p now w hit (each m step x)
       unfolding each step
@@ -120,7 +120,7 @@ module _ (K : Stretch) (p now : ℕ) (ip : In (K .n) p) (Sp : K .steady p ≡ tr
           go : Dec (m + 1 ≡ K .L) → (m + 1 ≢ K .L → Heard K p now w hit (each m step x)) → Heard K p now w hit (step m (each m step x))
           go (yes e) rest = rw e (link-hit (inbox (K .L)) (each m step x) g (fair (K .L) (K .L-in)) (first-waits m x (omega arith) h))
           go (no ne) rest =
-              link-keeps (Heard K p now w hit) (λ v. (m + 1 ≢ p) × Fair K now (m + 1) v) p now (m + 1) (λ v z. hear-again (m + 1) v z (sender-in (K .n) m (omega arith))) (inbox (m + 1)) (each m step x) (fair (m + 1) (sender-in (K .n) m (omega arith))) (rest ne)
+              link-keeps (Heard K p now w hit) (λ v. (m + 1 ≢ p) × Fair K now (m + 1) v) p now (m + 1) (λ v z. hear-again (m + 1) v z (seat-in (K .n) m (omega arith))) (inbox (m + 1)) (each m step x) (fair (m + 1) (seat-in (K .n) m (omega arith))) (rest ne)
 
       pub all-hit : Due now (inbox (K .L)) → (x : Station) → Waits K p now w x → Heard K p now w hit (heardAll (K .n) p now inbox x)
       unfolding heardAll step
@@ -162,7 +162,7 @@ slot-timer period now x = slottedNow-elim (λ (y : Station). y .timer ≡ x .tim
 pub slot-timeouts : (period now : ℕ) (x : Station) → slottedNow period now x .timeouts ≡ x .timeouts
 slot-timeouts period now x = slottedNow-elim (λ (y : Station). y .timeouts ≡ x .timeouts) period now x (λ e. refl) (λ e. refl)
 
-module _ (K : Stretch) (p now : ℕ) (low : 1 ≤ now) (ip : In (K .n) p) (Sp : K .steady p ≡ true) (least : keyL K ≤ 16 * K .C p + p)
+module _ (K : Stretch) (p now : ℕ) (low : 1 ≤ now) (ip : In (K .n) p) (Sp : K .steady p ≡ true) (least : keyL K ≤ key (K .C p) p)
     (inbox : ℕ → List Message) (fair : (q : ℕ) → In (K .n) q → FairTo K p now q (inbox q)) where
   pub all-calm : (x : Station) → Calm K p now x → Calm K p now (heardAll (K .n) p now inbox x)
   all-calm x h = all-keeps (Calm K p now) (λ q v. (q ≢ p) × Fair K now q v) (K .n) p now inbox (λ q v y iq f. hear-calm K p ip Sp least now q v y iq (f .0) (f .1)) fair x h

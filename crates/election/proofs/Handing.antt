@@ -3,7 +3,7 @@ use mathlib.Core.Path.{_≡_, refl, sym, ap, _∙_}
 use mathlib.Core.Logic.{_⊎_, _≢_}
 use mathlib.Core.Logic._⊎_.{inl, inr}
 use mathlib.Core.List.{List, [], _∷_, _++_}
-use mathlib.Core.Bool.{true}
+use mathlib.Core.Bool.{true, true≢false}
 use Prim.Native.Nat.{ℕ, _+_, _-_, _<_, _≤_, min}
 use native.Mathlib.Omega.{arith}
 use lib.ListN.{replicate}
@@ -14,18 +14,19 @@ use Rattle.station.specs.Rules.{trusting, heard}
 use Rattle.station.specs.declared.Station.{Station}
 use Rattle.station.proofs.Between.{start-of, crash-of}
 use Rattle.station.proofs.Handed.{JustSet, InTick, Before, Hearing, hearing-of, Expiring, expiring-of, Unended, Ended, Slotting, slotting-of}
-use Rattle.station.proofs.Keeps.{leader-timeout}
-use Rattle.station.proofs.Tests.{Counts, Timer, Standing, of-fit}
+use Rattle.station.proofs.Keeps.{leader-timeout, set-other}
+use Rattle.station.proofs.Tests.{Counts, Timer, Standing, of-counts, of-fit}
 use Rattle.election.specs.Handed.{Finds, Hears, Expires, Slots, Eight}
 use Rattle.election.specs.System.{station, underway, isLink}
 use Rattle.election.specs.Tick.{heardLink, heardAll, expiredNow, settled}
 use Rattle.election.specs.declared.Message.{Message}
 use Rattle.election.specs.declared.System.{System}
-use Rattle.election.proofs.Carries.{Underway, Mail, noMail, also, zeros-in, carries-one, carries-two, no-mail, also-mail, also-own, also-others}
-use Rattle.election.proofs.Delivers.{hears-none, hears-one, hears-nobody, hears-only, heardAll-each, timer-ends, timer-runs}
-use Rattle.election.proofs.Earlier.{earlier-fits, leader-other, leader-heard, earlier, unexpired-fits, leader-expired}
+use Rattle.election.proofs.Carries.{Adrift, Inbox, noMail, also, carries-one, carries-two, no-mail, also-mail, also-own, also-others}
+use Rattle.election.proofs.OneSender.{hears-one, hears-nobody, hears-only, heardAll-each, timer-ends, timer-runs}
+use Rattle.election.proofs.Earlier.{earlier-fits, leader-heard, earlier, unexpired-fits, leader-expired}
+use Rattle.election.proofs.Links.{zeros-in}
 use Rattle.election.proofs.Places.{In, is-link}
-use Rattle.election.proofs.Steps.{settled-up}
+use Rattle.election.proofs.Steps.{heard-none, settled-up}
 use Rattle.election.proofs.Witness.{around, around-station, around-underway, around-finds, around-runs, inside-eight}
 
 pub start-handed : (me n period tick : ℕ) (x : Station) → fitStart me n period tick x ≡ true → Finds me n period tick x
@@ -38,8 +39,9 @@ crash-handed me n period tick x e = let (f, u) = crash-of me n period tick x e i
 abbrev dueNow : ℕ → ℕ → List ℕ → Message
 dueNow now sent v = record { sent = sent; due = now; counts = v }
 
-due-now : (n now sent : ℕ) (v : List ℕ) → 1 ≤ now → sent ≤ now - 1 → now ≤ sent + 64 → Counts n v → Underway n (now - 1) (dueNow now sent v)
-due-now n now sent v low began soon c = record { began = began; awaited = omega arith; soon = soon; counts = c }
+due-now : (n period now sent : ℕ) (v : List ℕ) → 1 ≤ now → sent ≤ now - 1 → now ≤ sent + 64 → Counts n v → Adrift n period (now - 1) (dueNow now sent v)
+due-now n period now sent v low began soon c x d =
+    record { sent-by = began; due-after = omega arith; due-by = soon; counts = of-counts n v c; before = λ u. absurd (true≢false (sym u ∙ d)) }
 
 -- mail of q alone
 abbrev only : ℕ → List Message → ℕ → List Message
@@ -53,8 +55,8 @@ module _ (me n period now : ℕ) (v : InTick me n period now) where
   hm : In 8 me
   hm = inside-eight me n period (v .given)
 
-  linked : (q : ℕ) → 1 ≤ q → q ≤ n → q ≢ me → isLink n q me ≡ true
-  linked q low high ne = is-link n q me (record { low = low; high = high }) (record { low = v .given .me-low; high = v .given .me-high }) ne
+  link-here : (q : ℕ) → 1 ≤ q → q ≤ n → q ≢ me → isLink n q me ≡ true
+  link-here q low high ne = is-link n q me (record { low = low; high = high }) (record { low = v .given .me-low; high = v .given .me-high }) ne
 
   -- nothing comes
   quiet : (x : Station) → heardAll n me now (λ q. underway (around me n period (now - 1) x noMail) q me) (station (around me n period (now - 1) x noMail) me) ≡ x
@@ -73,12 +75,12 @@ module _ (me n period now : ℕ) (v : InTick me n period now) where
       ∙ ap (expiredNow me now) h
 
 -- the leader's mail may be under way
-leader-mail : (me n period now : ℕ) (x : Station) → InTick me n period now → Standing me n period (now - 1) x → JustSet me now x → Mail me n period (now - 1) (leaderMail now x)
+leader-mail : (me n period now : ℕ) (x : Station) → InTick me n period now → Standing me n period (now - 1) x → JustSet me now x → Inbox me n period (now - 1) (leaderMail now x)
 leader-mail me n period now x v st j =
     let o : Message = dueNow now (now - 1) (replicate 8 0) in
     also-mail me n period (now - 1) (x .leader) (o ∷ []) noMail
-    (linked me n period now v (x .leader) (st .living .leader-low) (st .living .leader-high) (leader-other me n period now x (v .given) st j))
-    (carries-one n period (now - 1) o (due-now n now (now - 1) (replicate 8 0) (v .tick-low) (omega arith) (omega (arith, v .tick-low)) (zeros-in n)))
+    (link-here me n period now v (x .leader) (st .living .leader-low) (st .living .leader-high) (set-other me now x j))
+    (carries-one n period (now - 1) o (due-now n period now (now - 1) (replicate 8 0) (v .tick-low) (omega arith) (omega (arith, v .tick-low)) (zeros-in n)))
     (no-mail me n period (now - 1))
 
 pub expire-handed : (me n period now : ℕ) (x : Station) → fitExpire me n period now x ≡ true → Expires me n period now x
@@ -95,14 +97,18 @@ module _ (me n period now q : ℕ) (v : List ℕ) (x : Station) (h : Hearing me 
   abbrev youngest : Message
   youngest = dueNow now (now - 1) v
 
-  youngest-due : Underway n (now - 1) youngest
-  youngest-due = due-now n now (now - 1) v (h .values .tick-low) (omega arith) (omega (arith, h .values .tick-low)) (h .message .counts)
+  youngest-due : Adrift n period (now - 1) youngest
+  youngest-due = due-now n period now (now - 1) v (h .values .tick-low) (omega arith) (omega (arith, h .values .tick-low)) (h .message .counts)
 
   from-q : isLink n q me ≡ true
-  from-q = linked me n period now (h .values) q (h .message .low) (h .message .high) (h .message .other)
+  from-q = link-here me n period now (h .values) q (h .message .low) (h .message .high) (h .message .other)
+
+  -- after the senders below q, in the system around y
+  abbrev heardLower : Station → (ℕ → List Message) → Station → Station
+  heardLower y mail z = each (q - 1) (λ k. heardLink me (k + 1) now (underway (around me n period (now - 1) y mail) (k + 1) me)) z
 
   -- handed by the system around an earlier station
-  handed-by : (y : Station) (mail : ℕ → List Message) (older : List Message) → Mail me n period (now - 1) mail → fit me n period (now - 1) y ≡ true → y .up ≡ true → mail q ≡ older ++ (youngest ∷ []) → heardLink me q now older (each (q - 1) (λ k. heardLink me (k + 1) now (underway (around me n period (now - 1) y mail) (k + 1) me)) y) ≡ x → Hears me n period now q v x
+  handed-by : (y : Station) (mail : ℕ → List Message) (older : List Message) → Inbox me n period (now - 1) mail → fit me n period (now - 1) y ≡ true → y .up ≡ true → mail q ≡ older ++ (youngest ∷ []) → heardLink me q now older (heardLower y mail y) ≡ x → Hears me n period now q v x
   handed-by y mail older m f u e s =
       record {
         system = around me n period (now - 1) y mail;
@@ -116,19 +122,19 @@ module _ (me n period now q : ℕ) (v : List ℕ) (x : Station) (h : Hearing me 
         is-mail = around-underway me n period (now - 1) y mail q (record { low = h .message .low; high = omega (arith, h .message .high, h .values .given .n-high) }) (hm me n period now (h .values)) (m .carried q .few) ∙ e;
         is-due = refl;
         is-counts = refl;
-        is-station = ap (λ z. heardLink me q now older (each (q - 1) (λ k. heardLink me (k + 1) now (underway (around me n period (now - 1) y mail) (k + 1) me)) z)) (around-station me n period (now - 1) y mail (hm me n period now (h .values))) ∙ s;
+        is-station = ap (λ z. heardLink me q now older (heardLower y mail z)) (around-station me n period (now - 1) y mail (hm me n period now (h .values))) ∙ s;
       }
 
   -- where nothing was heard before
   hears-first : Timer me (now - 1) x → Hears me n period now q v x
   hears-first t =
       let mail : ℕ → List Message = only q (youngest ∷ []) in
-      let m : Mail me n period (now - 1) mail = also-mail me n period (now - 1) q (youngest ∷ []) noMail from-q (carries-one n period (now - 1) youngest youngest-due) (no-mail me n period (now - 1)) in
+      let m : Inbox me n period (now - 1) mail = also-mail me n period (now - 1) q (youngest ∷ []) noMail from-q (carries-one n period (now - 1) youngest youngest-due) (no-mail me n period (now - 1)) in
       handed-by x mail [] m
       (of-fit me n period (now - 1) x (h .values .given) (h .kept) (h .stands) t)
       (h .stands .living .up)
       (also-own q (youngest ∷ []) noMail)
-      (hears-none me q now (each (q - 1) (λ k. heardLink me (k + 1) now (underway (around me n period (now - 1) x mail) (k + 1) me)) x)
+      (heard-none me q now [] (heardLower x mail x) refl
       ∙ hears-nobody me n period (now - 1) now x mail (hm me n period now (h .values)) (λ p. m .carried p .few) (q - 1) (omega (arith, h .message .high, h .values .given .n-high)) x (λ p i. also-others q (youngest ∷ []) noMail p (λ e. omega (arith, h .message .low))))
 
   module _ (l : Eight x) (j : JustSet me now x) where
@@ -141,11 +147,11 @@ module _ (me n period now q : ℕ) (v : List ℕ) (x : Station) (h : Hearing me 
         let y : Station = trusting me 0 x in
         let o : Message = dueNow now (now - 1) (replicate 8 0) in
         let mail : ℕ → List Message = also q (youngest ∷ []) (leaderMail now x) in
-        let w : Mail me n period (now - 1) (leaderMail now x) = leader-mail me n period now x (h .values) (h .stands) j in
-        let m : Mail me n period (now - 1) mail = also-mail me n period (now - 1) q (youngest ∷ []) (leaderMail now x) from-q (carries-one n period (now - 1) youngest youngest-due) w in
+        let w : Inbox me n period (now - 1) (leaderMail now x) = leader-mail me n period now x (h .values) (h .stands) j in
+        let m : Inbox me n period (now - 1) mail = also-mail me n period (now - 1) q (youngest ∷ []) (leaderMail now x) from-q (carries-one n period (now - 1) youngest youngest-due) w in
         handed-by y mail [] m earlierFits (h .stands .living .up)
         (also-own q (youngest ∷ []) (leaderMail now x))
-        (hears-none me q now (each (q - 1) (λ k. heardLink me (k + 1) now (underway (around me n period (now - 1) y mail) (k + 1) me)) y)
+        (heard-none me q now [] (heardLower y mail y) refl
         ∙ hears-only me n period (now - 1) now y mail (hm me n period now (h .values)) (λ p. m .carried p .few) (q - 1) (omega (arith, h .message .high, h .values .given .n-high)) y (x .leader) (h .stands .living .leader-low) (omega arith)
         (λ p i ne. also-others q (youngest ∷ []) (leaderMail now x) p (λ e. omega (arith, h .message .low)) ∙ also-others (x .leader) (o ∷ []) noMail p ne)
         ∙ ap (λ ms. heardLink me (x .leader) now ms y) (also-others q (youngest ∷ []) (leaderMail now x) (x .leader) (λ e. omega arith) ∙ also-own (x .leader) (o ∷ []) noMail)
@@ -158,8 +164,8 @@ module _ (me n period now q : ℕ) (v : List ℕ) (x : Station) (h : Hearing me 
         let y : Station = trusting me 0 x in
         let o : Message = dueNow now (now - 1 - period) (replicate 8 0) in
         let ms : List Message = o ∷ youngest ∷ [] in
-        let u : Underway n (now - 1) o = due-now n now (now - 1 - period) (replicate 8 0) (h .values .tick-low) (omega arith) (omega arith) (zeros-in n) in
-        let m : Mail me n period (now - 1) (only q ms) = also-mail me n period (now - 1) q ms noMail from-q (carries-two n period (now - 1) o youngest u youngest-due (omega arith)) (no-mail me n period (now - 1)) in
+        let u : Adrift n period (now - 1) o = due-now n period now (now - 1 - period) (replicate 8 0) (h .values .tick-low) (omega arith) (omega arith) (zeros-in n) in
+        let m : Inbox me n period (now - 1) (only q ms) = also-mail me n period (now - 1) q ms noMail from-q (carries-two n period (now - 1) o youngest u youngest-due (omega arith)) (no-mail me n period (now - 1)) in
         handed-by y (only q ms) (o ∷ []) m earlierFits (h .stands .living .up)
         (also-own q ms noMail)
         (ap (heardLink me q now (o ∷ []))
@@ -178,7 +184,7 @@ hear-handed me n period now q v x l e = let h : Hearing me n period now q v x = 
 
 module _ (me n period now : ℕ) (x : Station) (d : Slotting me n period now x) where
   -- by the system around an earlier station
-  slots-by : (y : Station) (mail : ℕ → List Message) → Mail me n period (now - 1) mail → fit me n period (now - 1) y ≡ true → y .up ≡ true → settled (around me n period (now - 1) y mail) me ≡ x → Slots me n period now x
+  slots-by : (y : Station) (mail : ℕ → List Message) → Inbox me n period (now - 1) mail → fit me n period (now - 1) y ≡ true → y .up ≡ true → settled (around me n period (now - 1) y mail) me ≡ x → Slots me n period now x
   slots-by y mail m f u s =
       record {
         system = around me n period (now - 1) y mail;
@@ -204,9 +210,9 @@ module _ (me n period now : ℕ) (x : Station) (d : Slotting me n period now x) 
     slots-heard l j =
         let y : Station = trusting me 0 x in
         let o : Message = dueNow now (now - 1) (replicate 8 0) in
-        let m : Mail me n period (now - 1) (leaderMail now x) = leader-mail me n period now x (d .values) stands j in
+        let m : Inbox me n period (now - 1) (leaderMail now x) = leader-mail me n period now x (d .values) stands j in
         let s : System = around me n period (now - 1) y (leaderMail now x) in
-        let t : (period ≤ entry (x .timeouts) (x .leader)) × (entry (x .timeouts) (x .leader) ≤ longest (now - 1)) = leader-timeout me n period (longest (now - 1)) x (d .values .given) (d .living) (u .timeouts) (leader-other me n period now x (d .values .given) stands j) in
+        let t : (period ≤ entry (x .timeouts) (x .leader)) × (entry (x .timeouts) (x .leader) ≤ longest (now - 1)) = leader-timeout me n period (longest (now - 1)) x (d .values .given) (d .living) (u .timeouts) (set-other me now x j) in
         slots-by y (leaderMail now x) m
         (earlier-fits me n period now x (d .values .given) stands (d .kept))
         (d .living .up)

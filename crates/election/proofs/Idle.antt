@@ -29,7 +29,7 @@ use Rattle.election.specs.declared.Link.{Link}
 use Rattle.election.specs.declared.Message.{Message}
 use Rattle.election.specs.declared.System.{System}
 use Rattle.election.proofs.Invariant.{later-none}
-use Rattle.election.proofs.Mail.{Linked, holding-used, holding-at, holding-rest}
+use Rattle.election.proofs.Links.{Linked, holding-used, holding-at, holding-rest}
 use Rattle.election.proofs.Places.{In, messages-holding}
 use Rattle.election.proofs.Soundness.{Sound, sound-of, link-of, place-of}
 use Rattle.election.proofs.TickSound.{after-few}

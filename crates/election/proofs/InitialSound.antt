@@ -12,13 +12,13 @@ use Rattle.lists.proofs.Entries.{getD-upTo}
 use Rattle.lists.proofs.Test.{all-of}
 use Rattle.station.specs.Fit.{fit}
 use Rattle.station.specs.declared.Station.{Station}
-use Rattle.station.proofs.Fields.{down-cleared, down-fits}
+use Rattle.station.proofs.Down.{down-cleared, down-fits}
 use Rattle.station.proofs.Vectors.{zeros-at}
 use Rattle.election.specs.Claims.{FreshSound}
 use Rattle.election.specs.Sound.{emptyStation, emptyMessage, messageAt, sound}
 use Rattle.election.specs.System.{places, noStation, noLink, station, place, from, to, delay, isLink, unstarted, holding, fresh, initial}
-use Rattle.election.proofs.Mail.{Linked, holding-used, holding-rest, holding-linked, unused-empty}
-use Rattle.election.proofs.Places.{In, place-in, from-place, to-place, widen, is-link}
+use Rattle.election.proofs.Links.{Linked, holding-used, holding-rest, holding-linked, unused-empty}
+use Rattle.election.proofs.Places.{In, place-in, widen, at-link, is-link}
 use Rattle.election.proofs.Soundness.{Sound, emptySeat, emptyPlace}
 use Rattle.election.proofs.Spaced.{none}
 
@@ -36,7 +36,7 @@ empty-place =
     rw (holding-used [] (omega arith))
     (all-of places (λ i. emptyMessage (messageAt (holding []) i)) (λ k h. rw (holding-rest [] (omega arith) k h (omega arith)) unused-empty))
 
-empty-seat : emptySeat (unstarted 0) 0 ≡ true
+pub empty-seat : emptySeat (unstarted 0) 0 ≡ true
 unfolding emptySeat emptyStation
 empty-seat = rw (down-cleared (unstarted 0))
 
@@ -44,17 +44,21 @@ pub initial-ready : (n period : ℕ) → initial n period .ready ≡ true
 unfolding initial
 initial-ready n period = refl
 
-module _ (n period : ℕ) (n-low : 2 ≤ n) (n-high : n ≤ 8) (p-low : 16 ≤ period) (p-high : period ≤ 255) where
-  initial-station : (p : ℕ) → In n p → station (initial n period) p ≡ unstarted p
-  unfolding initial
-  initial-station p h =
-      let e : p - 1 + 1 ≡ p = omega (arith, h .low) in
-      getD-upTo 8 (λ k. unstarted (cond (ltb k n) (k + 1) 0)) (p - 1) noStation (omega (arith, h .low, h .high))
-      ∙ rw (lt-ltb (p - 1) n (omega (arith, h .low, h .high)), e)
+pub initial-n : (n period : ℕ) → initial n period .n ≡ n
+unfolding initial
+initial-n n period = refl
 
+pub initial-station : (n period : ℕ) → n ≤ 8 → (p : ℕ) → In n p → station (initial n period) p ≡ unstarted p
+unfolding initial
+initial-station n period n-high p h =
+    let e : p - 1 + 1 ≡ p = omega (arith, h .low) in
+    getD-upTo 8 (λ k. unstarted (cond (ltb k n) (k + 1) 0)) (p - 1) noStation (omega (arith, h .low, h .high))
+    ∙ rw (lt-ltb (p - 1) n (omega (arith, h .low, h .high)), e)
+
+module _ (n period : ℕ) (n-low : 2 ≤ n) (n-high : n ≤ 8) (p-low : 16 ≤ period) (p-high : period ≤ 255) where
   initial-fits : (p : ℕ) → In n p → fit p n period 0 (station (initial n period) p) ≡ true
   initial-fits p h =
-      rw (initial-station p h)
+      rw (initial-station n period n-high p h)
       (down-fits p n period 0 (unstarted p)
       (record { n-low = n-low; n-high = n-high; period-low = p-low; period-high = p-high; me-low = h .low; me-high = h .high })
       (record { few = omega arith; low = h .low; high = h .high }))
@@ -69,8 +73,7 @@ module _ (n period : ℕ) (n-low : 2 ≤ n) (n-high : n ≤ 8) (p-low : 16 ≤ p
   initial-short p q hp hq ne =
       let wp : In 8 p = widen n p n-high hp in
       let wq : In 8 q = widen n q n-high hq in
-      rw (getD-upTo {A = ℕ} 64 (λ k. cond (isLink n (from k) (to k)) 1 0) (place p q) 0 (place-in p q wp wq), from-place p q wp wq, to-place p q wp wq, is-link n p q hp hq ne)
-      (omega arith)
+      rw (at-link {A = ℕ} (λ a b. cond (isLink n a b) 1 0) p q 0 wp wq, is-link n p q hp hq ne) (omega arith)
 
   initial-linked : (p q : ℕ) → In n p → In n q → p ≢ q → Linked n period 0 (station (initial n period) p) (getD (initial n period .links) (place p q) noLink)
   unfolding initial

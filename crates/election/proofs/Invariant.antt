@@ -2,9 +2,9 @@
 use mathlib.Core.Path.{_≡_, refl, sym, ap, _∙_}
 use mathlib.Core.Logic.{_≢_, _⊎_}
 use mathlib.Core.Logic._⊎_.{inl, inr}
-use mathlib.Core.Bool.{Bool, true, false, not, _&&_}
+use mathlib.Core.Bool.{Bool, true, false}
 use mathlib.Core.List.{List, [], _∷_, _++_}
-use Prim.Native.Nat.{ℕ, zero, suc, _+_, _-_, _*_, _≤_, _<_, min, max}
+use Prim.Native.Nat.{ℕ, _+_, _*_, _≤_, _<_, min, max}
 use native.Mathlib.Numerals.{add-one}
 use native.Mathlib.Omega.{arith}
 use native.Mathlib.Decide.{ℕ-discrete, decLe}
@@ -13,20 +13,18 @@ use borrow.Author.Tests.{eq-eqb, ne-eqb}
 use Rattle.lists.specs.Every.{All}
 use Rattle.lists.proofs.Every.{all-map, all-append}
 use Rattle.station.specs.Order.{entry}
-use Rattle.station.specs.Rules.{sends}
 use Rattle.station.specs.declared.Station.{Station}
-use Rattle.station.proofs.Candidates.{keyOf}
-use Rattle.station.proofs.Unchanged.{Unchanged}
+use Rattle.station.proofs.Candidates.{key, keyOf}
 use Rattle.election.specs.System.{station, delay, underway}
 use Rattle.election.specs.Tick.{next, slottedNow, settled, sending, later, sent, underwayAfter, tick}
 use Rattle.election.specs.declared.Message.{Message}
 use Rattle.election.specs.declared.System.{System}
-use Rattle.election.proofs.Calm.{Sane, Stretch, keyL, Calm, Fair, expire-calm, calm-self}
+use Rattle.election.proofs.Calm.{Known, Sane, Stretch, keyL, Calm, expire-calm, calm-self}
 use Rattle.election.proofs.Follower.{Due, due?, FairTo, spare, ticked, all-calm, ticked-calm, move-hit, move-quiet}
 use Rattle.election.proofs.Places.{In, tick-station, tick-underway}
 use Rattle.election.proofs.Potential.{Phase, Move, early, move-phase}
-use Rattle.election.proofs.Reached.{always, counts, Reached, underway-due, inbox-all, later-all, sent-all, sending-of, tick-up, tick-count, settled-sane, tick-reached}
-use Rattle.election.proofs.Steps.{slottedNow-elim, settled-up, settled-unchanged}
+use Rattle.election.proofs.Reached.{always, counts, Reached, inbox-all, later-all, sent-all, settled-sane, tick-reached}
+use Rattle.election.proofs.Steps.{settled-up, settled-unchanged, sending-of, tick-up, tick-count, tick-slotted, tick-unslotted}
 use Rattle.election.proofs.TickSound.{after-few}
 
 -- The soonest that one of the messages is due, or c if that is sooner.
@@ -60,9 +58,9 @@ later-none now [] h = refl
 later-none now (m ∷ ms) h = rw (ne-eqb (m .due) now (h .0)) (ap (λ (l : List Message). m ∷ l) (later-none now ms (h .1)))
 
 -- A message from q to a steady head.
-pub record Mail (K : Stretch) (tick q : ℕ) (m : Message) : Type 0 where
+pub record Coming (K : Stretch) (tick q : ℕ) (m : Message) : Type 0 where
   pub ahead : tick < m .due
-  pub low : (x : ℕ) → In (K .n) x → K .steady x ≡ true → entry (m .counts) x ≤ K .C x
+  pub low : Known (K .n) (K .steady) (K .C) (m .counts)
   pub old : q ≢ K .L → keyOf (m .counts) q ≤ keyL K → m .due ≤ K .since + K .d
 
 -- The tick by which a message of L's reaches p.
@@ -82,9 +80,9 @@ pub record Inv (K : Stretch) (s : System) : Type 0 where
   pub ups : (p : ℕ) → In (K .n) p → K .steady p ≡ true → station s p .up ≡ true
   pub const : (x : ℕ) → In (K .n) x → K .steady x ≡ true → counts s x ≡ K .C x
   pub surplus : (p : ℕ) → In (K .n) p → station s p .up ≡ true → K .steady p ≡ false → K .C (K .L) < counts s p
-  pub least : (p : ℕ) → In (K .n) p → K .steady p ≡ true → keyL K ≤ 16 * K .C p + p
+  pub least : (p : ℕ) → In (K .n) p → K .steady p ≡ true → keyL K ≤ key (K .C p) p
   pub calm : (p : ℕ) → In (K .n) p → K .steady p ≡ true → Calm K p (s .tick + 1) (station s p)
-  pub mail : (q p : ℕ) → In (K .n) q → In (K .n) p → q ≢ p → K .steady p ≡ true → All (Mail K (s .tick) q) (underway s q p)
+  pub mail : (q p : ℕ) → In (K .n) q → In (K .n) p → q ≢ p → K .steady p ≡ true → All (Coming K (s .tick) q) (underway s q p)
   pub next-lo : s .tick < station s (K .L) .slot
   pub next-hi : station s (K .L) .slot ≤ max (K .since + K .W) (s .tick + K .period)
   pub phases : (p : ℕ) → In (K .n) p → K .steady p ≡ true → p ≢ K .L → phase K s p
@@ -112,8 +110,8 @@ module _ (K : Stretch) (s : System) (h : Inv K s) where
 
   fair : (p : ℕ) → In (K .n) p → K .steady p ≡ true → (q : ℕ) → In (K .n) q → FairTo K p (next s) q (underway s q p)
   fair p ip u q iq =
-      all-map (λ m. (q ≢ p) × Mail K (s .tick) q m) _ (λ m f e. (f .0, record { counts = f .1 .low; old = λ ne le. omega (arith, f .1 .old ne le) })) (underway s q p)
-      (inbox-all s (h .reached .sound) (Mail K (s .tick)) p (in-s p ip) (λ r ir ne. h .mail r p (record { low = ir .low; high = omega (arith, ir .high, h .same-n) }) ip ne u) q (in-s q iq))
+      all-map (λ m. (q ≢ p) × Coming K (s .tick) q m) _ (λ m f e. (f .0, record { counts = f .1 .low; old = λ ne le. omega (arith, f .1 .old ne le) })) (underway s q p)
+      (inbox-all s (h .reached .sound) (Coming K (s .tick)) p (in-s p ip) (λ r ir ne. h .mail r p (record { low = ir .low; high = omega (arith, ir .high, h .same-n) }) ip ne u) q (in-s q iq))
 
   -- After steps (a) and (b).
   settled-calm : (p : ℕ) → In (K .n) p → K .steady p ≡ true → Calm K p (next s + 1) (settled s p)
@@ -129,9 +127,9 @@ module _ (K : Stretch) (s : System) (h : Inv K s) where
       go true e = omega (arith, h .const q iq e, h .least q iq e, iq .high, K .L-in .high, K .small)
       go false e = omega (arith, h .surplus q iq u e, iq .high, K .L-in .high, K .small)
 
-  sent-mail : (q p : ℕ) → In (K .n) q → All (Mail K (next s) q) (sent s q p)
+  sent-mail : (q p : ℕ) → In (K .n) q → All (Coming K (next s) q) (sent s q p)
   sent-mail q p iq =
-      sent-all (Mail K (next s) q) s q p
+      sent-all (Coming K (next s) q) s q p
       (λ e d.
       let u : station s q .up ≡ true = sending-of s q e .0 in
       let c : Sane (s .n) (s .period) always (counts s) q (next s + 1) (settled s q) = settled-sane s (h .reached) q (in-s q iq) u in
@@ -141,12 +139,8 @@ module _ (K : Stretch) (s : System) (h : Inv K s) where
   slot-next : (station s (K .L) .slot ≡ next s → station (tick s) (K .L) .slot ≡ next s + K .period)
       × (station s (K .L) .slot ≢ next s → station (tick s) (K .L) .slot ≡ station s (K .L) .slot)
   slot-next =
-      let x : settled s (K .L) .slot ≡ station s (K .L) .slot = settled-unchanged s (K .L) .slot in
-      rw (station-next (K .L) (K .L-in))
-      (slottedNow-elim (λ (y : Station). (station s (K .L) .slot ≡ next s → y .slot ≡ next s + K .period) × (station s (K .L) .slot ≢ next s → y .slot ≡ station s (K .L) .slot))
-      (K .period) (next s) (settled s (K .L))
-      (λ e. ((λ f. refl), (λ f. absurd (f (sym x ∙ e)))))
-      (λ e. ((λ f. absurd (e (x ∙ f))), (λ f. x))))
+      let i : In (s .n) (K .L) = in-s (K .L) (K .L-in) in
+      ((λ e. tick-slotted s n-high (K .L) i e ∙ ap (λ b. next s + b) (h .same-period)), tick-unslotted s n-high (K .L) i)
 
   next-hi′ : station (tick s) (K .L) .slot ≤ max (K .since + K .W) (next s + K .period)
   next-hi′ = go (ℕ-discrete (station s (K .L) .slot) (next s))
@@ -227,12 +221,14 @@ module _ (K : Stretch) (s : System) (h : Inv K s) where
             move-quiet K p (next s) (omega arith) ip u (h .least p ip u) (λ q. underway s q p) (fair p ip u) pL late (station s p) (h .calm p ip u) (END K) (deadline K s p) dl′ g
             (rw (deadline-eq p ip pL, later-none (next s) (underway s (K .L) p) g) (soonest-mono (underway s (K .L) p) c′ (station s (K .L) .slot + K .d) (reach late p ip u pL)))
 
-    phase′ : (p : ℕ) → In (K .n) p → K .steady p ≡ true → p ≢ K .L
-        → Phase (K .d) (END K) (next s) (station (tick s) p .timer) (spare K (station (tick s) p)) (deadline K (tick s) p) (eqb (station (tick s) p .leader) (K .L))
+    abbrev phase-next : ℕ → Type 0
+    phase-next p =
+        Phase (K .d) (END K) (next s) (station (tick s) p .timer) (spare K (station (tick s) p)) (deadline K (tick s) p) (eqb (station (tick s) p .leader) (K .L))
+
+    phase′ : (p : ℕ) → In (K .n) p → K .steady p ≡ true → p ≢ K .L → phase-next p
     phase′ p ip u pL = go (decLe (next s) (K .since + K .M + 2 * K .d))
       where
-        go : Dec (next s ≤ K .since + K .M + 2 * K .d)
-            → Phase (K .d) (END K) (next s) (station (tick s) p .timer) (spare K (station (tick s) p)) (deadline K (tick s) p) (eqb (station (tick s) p .leader) (K .L))
+        go : Dec (next s ≤ K .since + K .M + 2 * K .d) → phase-next p
         go (yes e) = early (omega (arith, soonest-le (underway (tick s) (K .L) p) (station (tick s) (K .L) .slot + K .d), next-hi′))
         go (no e) =
             rw add-one
@@ -241,11 +237,11 @@ module _ (K : Stretch) (s : System) (h : Inv K s) where
     calm′ : (p : ℕ) → In (K .n) p → K .steady p ≡ true → Calm K p (next s + 1) (station (tick s) p)
     calm′ p ip u = rw (steady-next p ip u) (ticked-calm K p (next s) (omega arith) ip u (h .least p ip u) (λ q. underway s q p) (fair p ip u) (station s p) (h .calm p ip u))
 
-    mail′ : (q p : ℕ) → In (K .n) q → In (K .n) p → q ≢ p → K .steady p ≡ true → All (Mail K (next s) q) (underway (tick s) q p)
+    mail′ : (q p : ℕ) → In (K .n) q → In (K .n) p → q ≢ p → K .steady p ≡ true → All (Coming K (next s) q) (underway (tick s) q p)
     mail′ q p iq ip ne u =
         rw (underway-next q p iq ip ne)
-        (all-append (Mail K (next s) q) (later (next s) (underway s q p)) (sent s q p)
-        (later-all (Mail K (s .tick) q) (Mail K (next s) q) (next s) (underway s q p) (λ m d f. record { ahead = omega (arith, f .ahead); low = f .low; old = f .old }) (h .mail q p iq ip ne u))
+        (all-append (Coming K (next s) q) (later (next s) (underway s q p)) (sent s q p)
+        (later-all (Coming K (s .tick) q) (Coming K (next s) q) (next s) (underway s q p) (λ m d f. record { ahead = omega (arith, f .ahead); low = f .low; old = f .old }) (h .mail q p iq ip ne u))
         (sent-mail q p iq))
 
     pub tick-inv : Inv K (tick s)

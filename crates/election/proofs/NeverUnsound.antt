@@ -2,20 +2,22 @@
 use mathlib.Core.Path.{_≡_}
 use mathlib.Core.Logic.{_≢_}
 use mathlib.Core.List.{List, [], _∷_}
-use mathlib.Core.Bool.{Bool, true, false}
-use Prim.Native.Nat.{ℕ, zero, suc, _+_}
+use mathlib.Core.Bool.{Bool, true}
+use Prim.Native.Nat.{ℕ, zero, suc}
+use native.Mathlib.Decide.{ℕ-discrete}
 use native.Mathlib.Omega.{arith}
-use lib.ListN.{length, getD, drop}
-use lib.Dec.{ltb, eqb}
+use lib.ListN.{length, getD}
+use lib.Dec.{ltb}
 use Rattle.lists.specs.First.{firstFailed}
 use Rattle.lists.proofs.Bools.{cond-elim}
 use Rattle.station.specs.Fit.{within}
 use Rattle.election.specs.Claims.{NeverUnsound}
-use Rattle.election.specs.Commands.{Command, SetUp, Start, Crash, Link, Run, Lose, Report, Result, decode, operands, tests, refusal, command}
+use Rattle.election.specs.Commands.{Command, SetUp, Start, Crash, Link, Run, Lose, Report, decode, operands, tests, refusal, command}
 use Rattle.election.specs.Schedule.{End, follow, mostBytes, schedule}
 use Rattle.election.specs.Sound.{sound}
 use Rattle.election.specs.System.{fresh}
 use Rattle.election.specs.declared.System.{System}
+use Rattle.election.proofs.Follow.{follow-yes, follow-no}
 use Rattle.election.proofs.InitialSound.{fresh-sound}
 use Rattle.election.proofs.KeepsSound.{keeps-sound}
 
@@ -49,24 +51,11 @@ pub follow-other : (fuel : ℕ) (s : System) (at : ℕ) (bytes : List ℕ) → s
 unfolding follow
 follow-other zero s at bytes e = omega arith
 follow-other (suc fuel) s at [] e = omega arith
-follow-other (suc fuel) s at (b ∷ bytes) e =
-    let r : Result = command s (b ∷ bytes) in
-    go (eqb (r .refusal) 0) (follow-other fuel (r .system) (at + r .length) (drop (r .length) (b ∷ bytes)) (keeps-sound s (b ∷ bytes) e)) (sound-other s (b ∷ bytes) e)
+follow-other (suc fuel) s at (b ∷ bytes) e = go (ℕ-discrete (command s (b ∷ bytes) .refusal) 0) (follow-other fuel)
   where
-    ends : Bool → End
-    ends t =
-        let r : Result = command s (b ∷ bytes) in
-        elim t [
-          | true ↦ follow fuel (r .system) (at + r .length) (drop (r .length) (b ∷ bytes))
-          | false ↦ record { refusal = r .refusal; offset = at; system = s }
-        ]
-
-    go : (t : Bool)
-        → follow fuel (command s (b ∷ bytes) .system) (at + command s (b ∷ bytes) .length) (drop (command s (b ∷ bytes) .length) (b ∷ bytes)) .refusal ≢ 15
-        → command s (b ∷ bytes) .refusal ≢ 15
-        → ends t .refusal ≢ 15
-    go true x y = x
-    go false x y = y
+    go : Dec (command s (b ∷ bytes) .refusal ≡ 0) → ((x : System) (to : ℕ) (rest : List ℕ) → sound x ≡ true → follow fuel x to rest .refusal ≢ 15) → follow (suc fuel) s at (b ∷ bytes) .refusal ≢ 15
+    go (yes t) rest = rw (follow-yes fuel s at b bytes t) (rest _ _ _ (keeps-sound s (b ∷ bytes) e))
+    go (no ne) rest = rw (follow-no fuel s at b bytes ne) (sound-other s (b ∷ bytes) e)
 
 pub never-unsound : NeverUnsound
 unfolding schedule

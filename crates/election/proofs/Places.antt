@@ -1,20 +1,17 @@
--- What stands where after each change of a system.
-use mathlib.Core.Path.{_≡_, refl, sym, ap, _∙_}
+-- Where the stations and links of a system stand, and what stands there after a tick.
+use mathlib.Core.Path.{_≡_, refl, ap, _∙_}
 use mathlib.Core.Logic.{_≢_}
-use mathlib.Core.List.{List, [], _∷_, _++_}
-use mathlib.Core.Bool.{Bool, true, false, cond, not, _&&_}
-use Prim.Native.Nat.{ℕ, zero, suc, _+_, _-_, _*_, _/_, _%_, _<_, _≤_}
+use mathlib.Core.List.{List}
+use mathlib.Core.Bool.{true, cond, _&&_}
+use Prim.Native.Nat.{ℕ, _+_, _-_, _<_, _≤_}
 use native.Mathlib.Omega.{arith}
-use lib.ListN.{length, getD, take, set, replicate}
-use lib.Seq.{getD-set-same, getD-set-other}
-use lib.Dec.{ltb, eqb}
+use lib.ListN.{length, getD, replicate}
+use lib.Dec.{ltb}
 use borrow.Author.Tests.{lt-ltb, ne-eqb}
-use Rattle.lists.specs.Entries.{upTo, over}
+use Rattle.lists.specs.Entries.{upTo}
 use Rattle.lists.proofs.Entries.{getD-upTo, take-over}
-use Rattle.station.specs.declared.Station.{Station}
 use Rattle.election.specs.System.{noStation, noLink, station, place, from, to, delay, sentBy, messages, holding, underway, isLink}
 use Rattle.election.specs.Tick.{next, slottedNow, settled, sending, underwayAfter, tick}
-use Rattle.election.specs.declared.Link.{Link}
 use Rattle.election.specs.declared.Message.{Message}
 use Rattle.election.specs.declared.System.{System}
 
@@ -22,6 +19,10 @@ use Rattle.election.specs.declared.System.{System}
 pub record In (n p : ℕ) : Type 0 where
   pub low : 1 ≤ p
   pub high : p ≤ n
+
+-- the station at a place below n
+pub seat-in : (n k : ℕ) → k < n → In n (k + 1)
+seat-in n k h = record { low = omega arith; high = omega arith }
 
 -- a link's place, and the link at it
 module _ (p q : ℕ) (hp : In 8 p) (hq : In 8 q) where

@@ -1,32 +1,30 @@
 -- What holds of every system that a schedule reaches, beyond soundness: A of the settling proof; kept by each tick.
-use mathlib.Core.Path.{_≡_, refl, sym, ap, _∙_}
+use mathlib.Core.Path.{_≡_, refl, sym, _∙_}
 use mathlib.Core.Logic.{_≢_}
-use mathlib.Core.Bool.{Bool, true, false, cond, not, _&&_}
-use mathlib.Core.List.{List, [], _∷_, _++_}
-use Prim.Native.Nat.{ℕ, _+_, _-_, _*_, _≤_, _<_}
+use mathlib.Core.Bool.{Bool, true, false, not, _&&_}
+use mathlib.Core.List.{List, [], _∷_}
+use Prim.Native.Nat.{ℕ, _+_, _≤_, _<_}
 use native.Mathlib.Omega.{arith}
 use native.Mathlib.Decide.{ℕ-discrete}
 use native.Mathlib.Nat.{le-of-eq}
-use lib.ListN.{length, getD}
 use lib.Dec.{eqb}
-use borrow.Author.Tests.{eqb-true, eqb-false, not-true}
+use borrow.Author.Tests.{eqb-false, not-true}
 use Rattle.lists.specs.Every.{All}
-use Rattle.lists.proofs.Bools.{both, three, cond-elim}
+use Rattle.lists.proofs.Bools.{both, cond-elim}
 use Rattle.lists.proofs.Every.{all-map, all-append}
 use Rattle.station.specs.Order.{entry}
 use Rattle.station.specs.declared.Station.{Station}
 use Rattle.station.proofs.Unchanged.{Unchanged}
-use Rattle.election.specs.System.{noLink, station, place, delay, messages, underway}
-use Rattle.election.specs.Sound.{messageAt}
-use Rattle.election.specs.Tick.{next, heardAll, expiredNow, slottedNow, settled, sending, later, sent, underwayAfter, tick}
+use Rattle.election.specs.System.{station, delay, underway}
+use Rattle.election.specs.Tick.{next, settled, sending, later, sent, underwayAfter, tick}
 use Rattle.election.specs.declared.Message.{Message}
 use Rattle.election.specs.declared.System.{System}
 use Rattle.election.proofs.Calm.{Sane, hear-sane, expire-sane, slot-sane}
-use Rattle.election.proofs.Mail.{Posted, Linked, linked-spaced}
-use Rattle.election.proofs.Places.{In, widen, place-in, from-place, to-place, tick-station, tick-underway, tick-tick, tick-n, tick-period}
-use Rattle.election.proofs.Soundness.{Sound, emptyPlace, no-self}
-use Rattle.election.proofs.Spaced.{Spaced, none, more}
-use Rattle.election.proofs.Steps.{slottedNow-elim, all-keeps, settled-up, settled-unchanged}
+use Rattle.election.proofs.Links.{Posted}
+use Rattle.election.proofs.Places.{In, tick-station, tick-underway}
+use Rattle.election.proofs.Soundness.{Sound, underway-spaced, underway-self}
+use Rattle.election.proofs.Spaced.{spaced-all}
+use Rattle.election.proofs.Steps.{slottedNow-elim, all-keeps, settled-up, settled-unchanged, sending-of, tick-up, tick-count}
 use Rattle.election.proofs.TickSound.{tick-sound, after-few}
 
 -- every number
@@ -47,27 +45,10 @@ pub record Reached (s : System) : Type 0 where
   pub paced : (p : ℕ) → In (s .n) p → station s p .up ≡ true → station s p .recovering ≡ false → station s p .slot ≤ s .tick + s .period
   pub mail : (q p : ℕ) → In (s .n) q → In (s .n) p → q ≢ p → All (Low s) (underway s q p)
 
--- what holds of each message that is spaced
-spaced-all : {P : Message → Type 0} {period low : ℕ} {ms : List Message} → Spaced P period low ms → All P ms
-spaced-all none = tt
-spaced-all (more l p r) = (p, spaced-all r)
-
-module _ (s : System) (h : Sound s) where
-  -- what is under way is due after the tick
-  pub underway-due : (q p : ℕ) → In (s .n) q → In (s .n) p → q ≢ p → All (λ (m : Message). s .tick < m .due) (underway s q p)
-  underway-due q p iq ip ne =
-      all-map (Posted (s .n) (s .period) (s .tick) (station s q)) _ (λ m f. f .due-after) (underway s q p)
-      (spaced-all (linked-spaced (s .n) (s .period) (s .tick) (station s q) (getD (s .links) (place q p) noLink) (h .linked q p iq ip ne)))
-
-  -- nothing is under way from a station to itself
-  pub underway-self : (p : ℕ) → In (s .n) p → underway s p p ≡ []
-  unfolding emptyPlace messages
-  underway-self p ip =
-      let w : In 8 p = widen (s .n) p (h .n-high) ip in
-      let e : emptyPlace (getD (s .delays) (place p p) 0) (getD (s .links) (place p p) noLink) ≡ true =
-      h .no-link (place p p) (place-in p p w w) (rw (from-place p p w w, to-place p p w w) (no-self (s .n) p)) in
-      let (a, b, c) = three (eqb (getD (s .delays) (place p p) 0) 0) (eqb (getD (s .links) (place p p) noLink .used) 0) _ e in
-      rw (eqb-true (getD (s .links) (place p p) noLink .used) 0 b)
+-- what is under way is due after the tick
+pub underway-due : (s : System) → Sound s → (q p : ℕ) → In (s .n) q → In (s .n) p → q ≢ p → All (λ (m : Message). s .tick < m .due) (underway s q p)
+underway-due s h q p iq ip ne =
+    all-map (Posted (s .n) (s .period) (s .tick) (station s q)) _ (λ m f. f .due-after) (underway s q p) (spaced-all (underway-spaced s h q p iq ip ne))
 
 -- facts about what is due now, sender by sender
 pub inbox-all : (s : System) → Sound s → (P : ℕ → Message → Type 0) (p : ℕ) → In (s .n) p
@@ -94,30 +75,10 @@ sent-all P s p q f =
     cond-elim (All P) (sending s p && not (eqb (delay s p q) 0))
     (λ e. let (a, b) = both (sending s p) (not (eqb (delay s p q) 0)) e in (f a (eqb-false _ _ (not-true _ b)), tt)) (λ e. tt)
 
--- who sends is up, at its send chance, and trusts itself
-pub sending-of : (s : System) (p : ℕ) → sending s p ≡ true → (station s p .up ≡ true) × (station s p .slot ≡ next s) × (settled s p .leader ≡ p)
-unfolding sending
-sending-of s p e =
-    let (a, b, c) = three (settled s p .up) (eqb (settled s p .slot) (next s)) (eqb (settled s p .leader) p) e in
-    let u : Unchanged (station s p) (settled s p) = settled-unchanged s p in
-    (sym (u .up) ∙ a, sym (u .slot) ∙ eqb-true _ _ b, eqb-true _ _ c)
-
 -- counts that only rise
 pub recount : (n period : ℕ) (C C′ : ℕ → ℕ) (p b : ℕ) (x : Station) → In n p → ((y : ℕ) → In n y → C y ≤ C′ y) → C p ≡ C′ p → Sane n period always C p b x → Sane n period always C′ p b x
 recount n period C C′ p b x ip le e h =
     record { own = h .own ∙ e; low = λ q iq t. omega (arith, h .low q iq t, le q iq); range = h .range; ahead = h .ahead; slow = h .slow; on = h .on; off = h .off }
-
--- a tick changes neither who is up nor a start count
-module _ (s : System) (n-high : s .n ≤ 8) (p : ℕ) (ip : In (s .n) p) where
-  pub tick-up : station (tick s) p .up ≡ station s p .up
-  tick-up =
-      ap (λ (y : Station). y .up) (tick-station s n-high p ip)
-      ∙ slottedNow-elim (λ (y : Station). y .up ≡ station s p .up) (s .period) (next s) (settled s p) (λ e. settled-unchanged s p .up) (λ e. settled-unchanged s p .up)
-
-  pub tick-count : counts (tick s) p ≡ counts s p
-  tick-count =
-      ap (λ (y : Station). y .incarnation) (tick-station s n-high p ip)
-      ∙ slottedNow-elim (λ (y : Station). y .incarnation ≡ counts s p) (s .period) (next s) (settled s p) (λ e. settled-unchanged s p .incarnation) (λ e. settled-unchanged s p .incarnation)
 
 module _ (s : System) (h : Reached s) where
   abbrev small : s .n ≤ 8

@@ -1,52 +1,46 @@
 -- Every accepted command keeps what holds of reached systems.
-use mathlib.Core.Path.{_≡_, refl, sym, ap, _∙_}
+use mathlib.Core.Path.{_≡_, sym, ap, _∙_}
 use mathlib.Core.Logic.{_≢_}
-use mathlib.Core.Bool.{Bool, true, false, cond, true≢false}
-use mathlib.Core.List.{List, [], _∷_}
-use Prim.Native.Nat.{ℕ, zero, suc, _+_, _-_, _*_, _≤_, _<_}
-use native.Mathlib.Decide.{ℕ-discrete, decLt}
+use mathlib.Core.Bool.{true, false, cond, true≢false}
+use mathlib.Core.List.{List, []}
+use Prim.Native.Nat.{ℕ, _+_, _-_, _≤_, _<_}
+use native.Mathlib.Decide.{ℕ-discrete}
 use native.Mathlib.Nat.{le-refl}
 use native.Mathlib.Omega.{arith}
-use lib.Dec.{eqb, ltb}
-use lib.ListN.{length, getD, set, replicate, List·getD-eq-default, getD-replicate}
-use lib.Seq.{getD-set-same, getD-set-other, set-out}
+use lib.ListN.{length, getD-replicate}
+use lib.Seq.{getD-set-same, getD-set-other}
 use borrow.Author.Tests.{ne-eqb, eq-eqb}
 use Rattle.lists.specs.Every.{All}
-use Rattle.lists.specs.Entries.{upTo}
 use Rattle.lists.specs.First.{firstFailed}
-use Rattle.lists.proofs.Entries.{getD-upTo}
 use Rattle.lists.proofs.Every.{all-map}
+use Rattle.lists.proofs.Sets.{within-list, set-keeps}
 use Rattle.station.specs.Order.{entry}
-use Rattle.station.specs.Rules.{other, started, crashed}
+use Rattle.station.specs.Rules.{started, crashed}
 use Rattle.station.specs.declared.Station.{Station}
-use Rattle.station.proofs.Candidates.{keyOf}
-use Rattle.station.proofs.Elimination.{startedWith, started-elim, crashed-elim}
-use Rattle.station.proofs.Tests.{fit-ranges, fit-of}
+use Rattle.station.proofs.Elimination.{started-elim}
+use Rattle.station.proofs.Fields.{started-count, started-recovering, crashed-count, crashed-up}
+use Rattle.station.proofs.Tests.{fit-ranges}
 use Rattle.station.proofs.Vectors.{other-of}
 use Rattle.election.specs.Commands.{Command, SetUp, Start, Crash, Link, Run, Lose, Report, tests, withStation, withDelay, withoutMessages, perform}
 use Rattle.election.specs.Sound.{sound}
-use Rattle.election.specs.System.{noStation, noLink, station, place, messages, holding, underway, fresh, initial, unstarted}
-use Rattle.election.specs.Tick.{tick, ticks}
+use Rattle.election.specs.System.{noStation, noLink, station, place, messages, holding, underway, fresh, initial}
+use Rattle.election.specs.Tick.{ticks}
 use Rattle.election.specs.declared.Message.{Message}
 use Rattle.election.specs.declared.System.{System}
 use Rattle.election.proofs.Accepting.{Accepts, accepts}
 use Rattle.election.proofs.Calm.{Sane}
 use Rattle.election.proofs.Changes.{start-sound, crash-sound, delay-sound, lose-sound}
-use Rattle.election.proofs.InitialSound.{fresh-sound, initial-sound}
+use Rattle.election.proofs.InitialSound.{fresh-sound, initial-station, initial-sound}
 use Rattle.election.proofs.KeepsSound.{perform-keeps}
-use Rattle.election.proofs.Places.{In, widen, same-place, tick-tick}
+use Rattle.election.proofs.Places.{In, place-in, widen, same-place}
 use Rattle.election.proofs.Reached.{always, counts, Low, Reached, recount, tick-reached}
 use Rattle.election.proofs.Soundness.{Sound}
+use Rattle.election.proofs.TickSound.{ticks-keep}
 
 -- a station of the system stands in its list
 pub in-stations : (s : System) → Sound s → (p : ℕ) → In (s .n) p → p - 1 < length (s .stations)
-in-stations s f p ip = go (decLt (p - 1) (length (s .stations)))
-  where
-    go : Dec (p - 1 < length (s .stations)) → p - 1 < length (s .stations)
-    go (yes l) = l
-    go (no l) =
-        let e : station s p .stable ≡ 0 = ap (λ (x : Station). x .stable) (List·getD-eq-default (s .stations) noStation {n = p - 1} (omega arith)) in
-        absurd (omega (arith, fit-ranges p (s .n) (s .period) (s .tick) (station s p) (f .fits p ip) .1 .low))
+in-stations s f p ip =
+    within-list (λ (x : Station). 1 ≤ x .stable) (s .stations) (p - 1) noStation (λ h. omega arith) (fit-ranges p (s .n) (s .period) (s .tick) (station s p) (f .fits p ip) .1 .low)
 
 -- station p changed to x
 module _ (s : System) (f : Sound s) (p : ℕ) (ip : In (s .n) p) (x : Station) where
@@ -66,21 +60,15 @@ module _ (s : System) (f : Sound s) (p : ℕ) (ip : In (s .n) p) (x : Station) w
         sound = snd;
         heads = λ r ir. go-heads r ir (ℕ-discrete r p);
         paced = λ r ir. go-paced r ir (ℕ-discrete r p);
-        mail = λ q r iq ir ne. all-map (Low s) _ (λ m g y iy. low m g y iy (ℕ-discrete y p)) (underway s q r) (h .mail q r iq ir ne);
+        mail = λ q r iq ir ne. all-map (Low s) _ (λ m g y iy. omega (arith, g y iy, up-to y iy)) (underway s q r) (h .mail q r iq ir ne);
       }
     where
-      s′ : System
-      s′ = withStation p x s
-
       up-to : (y : ℕ) → In (s .n) y → counts s y ≤ station (withStation p x s) y .incarnation
       up-to y iy = go (ℕ-discrete y p)
         where
           go : Dec (y ≡ p) → counts s y ≤ station (withStation p x s) y .incarnation
           go (yes e) = rw (e, changed-same) rises
           go (no ne) = rw (changed-other y (iy .low) ne) (le-refl (counts s y))
-
-      low : (m : Message) → Low s m → (y : ℕ) → In (s .n) y → Dec (y ≡ p) → entry (m .counts) y ≤ station (withStation p x s) y .incarnation
-      low m g y iy d = omega (arith, g y iy, up-to y iy)
 
       go-heads : (r : ℕ) → In (s .n) r → Dec (r ≡ p) → station (withStation p x s) r .up ≡ true → Sane (s .n) (s .period) always (counts (withStation p x s)) r (s .tick + 1) (station (withStation p x s) r)
       go-heads r ir (yes e) = rw (e, changed-same) (λ u. sane u (counts (withStation p x s)) (ap (λ (y : Station). y .incarnation) changed-same))
@@ -119,17 +107,15 @@ pub start-reached : (s : System) → Reached s → (p : ℕ) → In (s .n) p →
 start-reached s h p ip few =
     let k = fit-ranges p (s .n) (s .period) (s .tick) (station s p) (h .sound .fits p ip) .1 in
     let st : In (s .n) (station s p .stable) = record { low = k .low; high = k .high } in
-    let rises : started p (s .n) (s .period) (s .tick) (station s p) .incarnation ≡ station s p .incarnation + 1 =
-    started-elim (λ y. y .incarnation ≡ station s p .incarnation + 1) p (s .n) (s .period) (s .tick) (station s p) (ip .low) (omega (arith, ip .high, h .sound .n-high)) (λ v t a b c d e. refl) in
+    let rises : started p (s .n) (s .period) (s .tick) (station s p) .incarnation ≡ station s p .incarnation + 1 = started-count p (s .n) (s .period) (s .tick) (station s p) in
     changed-reached s (h .sound) p ip (started p (s .n) (s .period) (s .tick) (station s p)) h (start-sound s (h .sound) p ip few) (omega (arith, rises))
     (λ u C e. start-sane (s .n) (s .period) (s .tick) (h .sound .n-high) p ip (station s p) st C (e ∙ rises))
-    (λ u w. absurd (true≢false (sym (started-elim (λ y. y .recovering ≡ true) p (s .n) (s .period) (s .tick) (station s p) (ip .low) (omega (arith, ip .high, h .sound .n-high)) (λ v t a b c d e. refl)) ∙ w)))
+    (λ u w. absurd (true≢false (sym (started-recovering p (s .n) (s .period) (s .tick) (station s p)) ∙ w)))
 
 pub crash-reached : (s : System) → Reached s → (p : ℕ) → In (s .n) p → station s p .up ≡ true → Reached (withStation p (crashed (station s p)) s)
 crash-reached s h p ip u =
-    let down : crashed (station s p) .up ≡ false = crashed-elim (λ y. y .up ≡ false) (station s p) refl in
-    let keeps : crashed (station s p) .incarnation ≡ station s p .incarnation = crashed-elim (λ y. y .incarnation ≡ station s p .incarnation) (station s p) refl in
-    changed-reached s (h .sound) p ip (crashed (station s p)) h (crash-sound s (h .sound) p ip u) (omega (arith, keeps))
+    let down : crashed (station s p) .up ≡ false = crashed-up (station s p) in
+    changed-reached s (h .sound) p ip (crashed (station s p)) h (crash-sound s (h .sound) p ip u) (omega (arith, crashed-count (station s p)))
     (λ v C e. absurd (true≢false (sym v ∙ down)))
     (λ v w. absurd (true≢false (sym v ∙ down)))
 
@@ -137,12 +123,8 @@ crash-reached s h p ip u =
 module _ (s : System) (a b : ℕ) (ia : In 8 a) (ib : In 8 b) where
   pub lost-elim : (P : List Message → Type 0) (q p : ℕ) → In 8 q → In 8 p → P (underway s q p) → (q ≡ a → p ≡ b → P []) → P (underway (withoutMessages a b s) q p)
   unfolding messages holding
-  lost-elim P q p iq ip h k = go (ℕ-discrete (place q p) (place a b)) (decLt (place a b) (length (s .links)))
-    where
-      go : Dec (place q p ≡ place a b) → Dec (place a b < length (s .links)) → P (messages (getD (set (s .links) (place a b) (holding [])) (place q p) noLink))
-      go (yes e) (yes l) = let (x, y) = same-place q p a b iq ip ia ib e in rw (e, getD-set-same (s .links) (place a b) (holding []) noLink l) (k x y)
-      go (yes e) (no l) = rw (set-out (s .links) (place a b) (holding []) (omega arith)) h
-      go (no ne) l = rw (getD-set-other (s .links) (place a b) (place q p) (holding []) noLink ne) h
+  lost-elim P q p iq ip h k =
+      set-keeps (λ l. P (messages l)) (s .links) (place a b) (place q p) (holding []) noLink (λ e. let (x, y) = same-place q p a b iq ip ia ib e in k x y) h
 
 pub lose-reached : (s : System) → Reached s → (a b : ℕ) → In (s .n) a → In (s .n) b → a ≢ b → Reached (withoutMessages a b s)
 lose-reached s h a b ia ib ne =
@@ -159,9 +141,7 @@ delay-reached s h a b d ia ib ne few =
     record { sound = delay-sound s (h .sound) a b ia ib ne d few; heads = h .heads; paced = h .paced; mail = h .mail }
 
 pub ticks-reached : (t : ℕ) (s : System) → s .tick + t ≤ 1000000 → Reached s → Reached (ticks t s)
-unfolding ticks
-ticks-reached zero s room h = h
-ticks-reached (suc t) s room h = ticks-reached t (tick s) (rw (tick-tick s) (omega arith)) (tick-reached s h (omega arith))
+ticks-reached = ticks-keep Reached tick-reached
 
 pub initial-reached : (n period : ℕ) → 2 ≤ n → n ≤ 8 → 16 ≤ period → period ≤ 255 → Reached (initial n period)
 unfolding initial messages holding
@@ -170,18 +150,11 @@ initial-reached n period n-low n-high p-low p-high =
       sound = initial-sound n period n-low n-high p-low p-high;
       heads = λ p ip u. absurd (true≢false (sym u ∙ down p ip));
       paced = λ p ip u. absurd (true≢false (sym u ∙ down p ip));
-      mail = λ q p iq ip ne. rw (empty q p) tt;
+      mail = λ q p iq ip ne. rw (getD-replicate 64 (place q p) (holding []) noLink (place-in q p (widen n q n-high iq) (widen n p n-high ip))) tt;
     }
   where
-    down : (p : ℕ) → In n p → getD (upTo 8 (λ k. unstarted (cond (ltb k n) (k + 1) 0))) (p - 1) noStation .up ≡ false
-    down p ip = ap (λ (x : Station). x .up) (getD-upTo 8 (λ k. unstarted (cond (ltb k n) (k + 1) 0)) (p - 1) noStation (omega (arith, ip .low, ip .high)))
-
-    empty : (q p : ℕ) → messages (getD (replicate 64 (holding [])) (place q p) noLink) ≡ []
-    empty q p = go (decLt (place q p) 64)
-      where
-        go : Dec (place q p < 64) → messages (getD (replicate 64 (holding [])) (place q p) noLink) ≡ []
-        go (yes l) = rw (getD-replicate 64 (place q p) (holding []) noLink l)
-        go (no l) = rw (List·getD-eq-default (replicate 64 (holding [])) noLink {n = place q p} (omega arith))
+    down : (p : ℕ) → In n p → station (initial n period) p .up ≡ false
+    down p ip = ap (λ (x : Station). x .up) (initial-station n period n-high p ip)
 
 -- what holds of a system before set up as well
 pub record Arrived (s : System) : Type 0 where

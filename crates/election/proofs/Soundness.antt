@@ -19,8 +19,8 @@ use Rattle.election.specs.System.{places, longestDelay, noStation, noLin
 use Rattle.election.specs.Sound.{emptyStation, emptyMessage, messageAt, linkIn, placeIn, stationIn, sound}
 use Rattle.election.specs.declared.Link.{Link}
 use Rattle.election.specs.declared.System.{System}
-use Rattle.election.proofs.Mail.{Posted, Linked, linked-of, of-linked, linked-spaced}
-use Rattle.election.proofs.Places.{In, place-in, from-place, to-place, widen, is-link}
+use Rattle.election.proofs.Links.{Posted, Linked, linked-of, of-linked, linked-spaced}
+use Rattle.election.proofs.Places.{In, seat-in, place-in, from-place, to-place, widen, is-link}
 use Rattle.election.proofs.Spaced.{Spaced}
 
 -- a place with no station, and one with no link
@@ -42,10 +42,6 @@ pub record Sound (s : System) : Type 0 where
   pub short : (p q : ℕ) → In (s .n) p → In (s .n) q → p ≢ q → delay s p q ≤ 64
   pub linked : (p q : ℕ) → In (s .n) p → In (s .n) q → p ≢ q → Linked (s .n) (s .period) (s .tick) (station s p) (getD (s .links) (place p q) noLink)
   pub no-link : (k : ℕ) → k < 64 → isLink (s .n) (from k) (to k) ≡ false → emptyPlace (getD (s .delays) k 0) (getD (s .links) k noLink) ≡ true
-
--- a place below n is a station's
-pub seat-in : (n k : ℕ) → k < n → In n (k + 1)
-seat-in n k h = record { low = omega arith; high = omega arith }
 
 -- which places are links
 module _ (n p q : ℕ) (hp : 1 ≤ p) (hq : 1 ≤ q) where

@@ -30,6 +30,11 @@ module _ {P : Message → Type 0} {period : ℕ} where
   raise low′ h none = none
   raise low′ h (more {m = m} l p r) = more (h m p) p r
 
+  -- what holds of each message
+  pub spaced-all : {low : ℕ} {ms : List Message} → Spaced P period low ms → All P ms
+  spaced-all none = tt
+  spaced-all (more l p r) = (p, spaced-all r)
+
   -- other facts of each message
   pub respace : {Q : Message → Type 0} {low : ℕ} {ms : List Message} → ((m : Message) → P m → Q m) → Spaced P period low ms → Spaced Q period low ms
   respace f none = none

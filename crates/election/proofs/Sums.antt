@@ -1,8 +1,8 @@
--- Sums over the heads.
+-- Laws of sums, and of how many tests fail.
 use mathlib.Core.Path.{_≡_, refl, sym, ap, _∙_}
 use mathlib.Core.Logic.{_≢_}
-use mathlib.Core.Bool.{Bool, true, false, cond, not, _&&_}
-use Prim.Native.Nat.{ℕ, zero, suc, _+_, _-_, _*_, _≤_, _<_, zero-le}
+use mathlib.Core.Bool.{Bool, true, false, cond, _&&_}
+use Prim.Native.Nat.{ℕ, zero, suc, _+_, _*_, _≤_, _<_, zero-le}
 use native.Mathlib.Decide.{ℕ-discrete}
 use native.Mathlib.Omega.{arith}
 use Rattle.lists.specs.Count.{countTo}
@@ -46,12 +46,6 @@ sum-counted (suc n) T t = go (t n) (sum-counted n T t)
     go : (b : Bool) → sumTo n (λ k. cond (t k) T 0) ≡ countTo n t * T → sumTo n (λ k. cond (t k) T 0) + cond b T 0 ≡ cond b (countTo n t + 1) (countTo n t) * T
     go true e = omega (arith, e)
     go false e = omega (arith, e)
-
--- two tests that say the same
-pub all-same : (n : ℕ) (t u : ℕ → Bool) → ((k : ℕ) → k < n → t k ≡ u k) → allTo n t ≡ allTo n u
-unfolding allTo
-all-same zero t u h = refl
-all-same (suc n) t u h = rw (all-same n t u (λ k l. h k (omega arith)), h n (omega arith))
 
 -- 1 if a test fails
 abbrev pub failed : Bool → ℕ

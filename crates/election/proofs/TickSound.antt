@@ -1,5 +1,5 @@
 -- A tick of a sound system leaves a sound one, and no link carries more than four messages.
-use mathlib.Core.Path.{_≡_, refl, _∙_}
+use mathlib.Core.Path.{_≡_, refl, sym, _∙_}
 use mathlib.Core.Logic.{_≢_}
 use mathlib.Core.List.{[], _∷_, _++_, append-nil}
 use mathlib.Core.Bool.{Bool, true, false, cond, not, _&&_}
@@ -15,11 +15,12 @@ use Rattle.election.specs.System.{noStation, noLink, station, place, fro
 use Rattle.election.specs.Tick.{next, slottedNow, settled, sending, later, sent, underwayAfter, tick, ticks}
 use Rattle.election.specs.declared.Message.{Message}
 use Rattle.election.specs.declared.System.{System}
-use Rattle.election.proofs.Mail.{Posted, Linked, holding-linked}
+use Rattle.election.proofs.Links.{Posted, Linked, holding-linked}
 use Rattle.election.proofs.Places.{In, tick-tick, tick-ready, tick-sent, tick-link}
 use Rattle.election.proofs.Soundness.{Sound, emptySeat, emptyPlace, sound-of, underway-spaced}
 use Rattle.election.proofs.Spaced.{Spaced, raise, respace, spaced-snoc, spaced-later, in-window}
-use Rattle.election.proofs.StationTick.{Sending, sending-of, tick-fits, tick-slot}
+use Rattle.election.proofs.StationTick.{tick-fits, sends-counts}
+use Rattle.election.proofs.Steps.{sending-of, tick-up, tick-slotted, tick-slot}
 
 module _ (s : System) (f : Sound s) (before : s .tick < 1000000) where
   -- one link
@@ -38,21 +39,21 @@ module _ (s : System) (f : Sound s) (before : s .tick < 1000000) where
           due-after = omega (arith, o .due-after);
           due-by = o .due-by;
           counts = o .counts;
-          before = λ u. (let (up, slot) = tick-slot s f before p hp u in omega (arith, o .before up));
+          before = λ u. omega (arith, o .before (sym (tick-up s (f .n-high) p hp) ∙ u), tick-slot s (f .n-high) p hp);
         }
 
     -- the message that is sent now
     abbrev message : Message
     message = record { sent = next s; due = next s + delay s p q; counts = settled s p .recovered }
 
-    new : Sending s p → delay s p q ≢ 0 → New message
-    new x some =
+    new : sending s p ≡ true → delay s p q ≢ 0 → New message
+    new e some =
         record {
           sent-by = omega arith;
           due-after = omega arith;
           due-by = omega (arith, f .short p q hp hq ne);
-          counts = x .counts;
-          before = λ u. omega (arith, x .slot);
+          counts = sends-counts s f before p hp e;
+          before = λ u. omega (arith, tick-slotted s (f .n-high) p hp (sending-of s p e .1));
         }
 
     pub after-spaced : Spaced New (s .period) 0 (underwayAfter s p q)
@@ -61,8 +62,8 @@ module _ (s : System) (f : Sound s) (before : s .tick < 1000000) where
       where
         go : (b : Bool) → sending s p ≡ b → (c : Bool) → eqb (delay s p q) 0 ≡ c → Spaced Old (s .period) 0 (later (next s) (underway s p q)) → Spaced New (s .period) 0 (later (next s) (underway s p q) ++ cond (b && not c) (message ∷ []) [])
         go true e false d r =
-            let x : Sending s p = sending-of s f before p hp e in
-            spaced-snoc message carried (λ m o. (let l : m .sent + s .period ≤ station s p .slot = o .0 .before (x .up) in omega (arith, x .due))) (omega arith) (new x (eqb-false (delay s p q) 0 d)) r
+            let (up, due, self) = sending-of s p e in
+            spaced-snoc message carried (λ m o. omega (arith, o .0 .before up)) (omega arith) (new e (eqb-false (delay s p q) 0 d)) r
         go true e true d r = rw append-nil (respace carried r)
         go false e c d r = rw append-nil (respace carried r)
 
@@ -113,11 +114,14 @@ module _ (s : System) (f : Sound s) (before : s .tick < 1000000) where
         no-link = after-place;
       }
 
--- a run of ticks
-pub ticks-sound : (t : ℕ) (s : System) → s .tick + t ≤ 1000000 → Sound s → Sound (ticks t s)
+-- what each tick keeps, a run of ticks keeps
+pub ticks-keep : (P : System → Type 0) → ((s : System) → P s → s .tick < 1000000 → P (tick s)) → (t : ℕ) (s : System) → s .tick + t ≤ 1000000 → P s → P (ticks t s)
 unfolding ticks
-ticks-sound zero s h f = f
-ticks-sound (suc t) s h f = ticks-sound t (tick s) (rw (tick-tick s) (omega arith)) (tick-sound s f (omega arith))
+ticks-keep P f zero s h p = p
+ticks-keep P f (suc t) s h p = ticks-keep P f t (tick s) (rw (tick-tick s) (omega arith)) (f s p (omega arith))
+
+pub ticks-sound : (t : ℕ) (s : System) → s .tick + t ≤ 1000000 → Sound s → Sound (ticks t s)
+ticks-sound = ticks-keep Sound tick-sound
 
 pub ticks-ready : (t : ℕ) (s : System) → ticks t s .ready ≡ s .ready
 unfolding ticks

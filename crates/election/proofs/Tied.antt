@@ -3,28 +3,27 @@ use mathlib.Core.Path.{_≡_, refl, sym, ap, _∙_}
 use mathlib.Core.Logic.{_≢_}
 use mathlib.Core.Bool.{Bool, true, false, cond, true≢false}
 use mathlib.Core.List.{List, [], _∷_}
-use Prim.Native.Nat.{ℕ, zero, suc, _+_, _-_, _≤_, _<_}
+use Prim.Native.Nat.{ℕ, zero, suc, _+_, _≤_}
 use native.Mathlib.Decide.{ℕ-discrete}
-use native.Mathlib.Nat.{add-zero, le-refl}
+use native.Mathlib.Nat.{add-zero}
 use native.Mathlib.Omega.{arith}
-use lib.Dec.{eqb, ltb}
-use lib.ListN.{getD}
+use lib.Dec.{eqb}
 use borrow.Author.Tests.{ne-eqb, eq-eqb}
-use Rattle.lists.specs.Entries.{upTo}
 use Rattle.lists.specs.First.{firstFailed}
-use Rattle.lists.proofs.Entries.{getD-upTo}
 use Rattle.station.specs.Rules.{started, crashed}
 use Rattle.station.specs.declared.Station.{Station}
-use Rattle.station.proofs.Elimination.{started-elim, crashed-elim}
+use Rattle.station.proofs.Fields.{started-count, started-up, crashed-count, crashed-up}
 use Rattle.election.specs.Commands.{Command, SetUp, Start, Crash, Link, Run, Lose, Report, tests, withStation, perform}
 use Rattle.election.specs.Settling.{starts, isUp, reached}
-use Rattle.election.specs.System.{noStation, station, initial, unstarted}
+use Rattle.election.specs.System.{station}
 use Rattle.election.specs.Tick.{tick, ticks}
 use Rattle.election.specs.declared.System.{System}
 use Rattle.election.proofs.Accepting.{Accepts, accepts}
 use Rattle.election.proofs.Places.{In, tick-n, tick-tick}
-use Rattle.election.proofs.Reached.{counts, Reached, tick-up, tick-count, tick-reached}
-use Rattle.election.proofs.Reaching.{Arrived, changed-same, changed-other, ticks-reached, perform-arrived}
+use Rattle.election.proofs.Reached.{counts, Reached, tick-reached}
+use Rattle.election.proofs.Reaching.{Arrived, changed-same, changed-other, perform-arrived}
+use Rattle.election.proofs.Steps.{tick-up, tick-count}
+use Rattle.election.proofs.TickSound.{ticks-ready}
 
 -- every command of the list is accepted, each by the system that the last one left
 abbrev pub Allowed : List Command → System → Type 0
@@ -107,29 +106,25 @@ changed-step c s h p ip y x ix a b = go (ℕ-discrete x p)
         let at : station (withStation p y s) x ≡ station s x = changed-other s (h .sound) p ip y x (ix .low) ne in
         record { count = ap (λ (z : Station). z .incarnation) at ∙ b ne .0; up = ap (λ (z : Station). z .up) at ∙ b ne .1 }
 
-pub step : (c : Command) (s : System) → s .ready ≡ true → Reached s → Accepts c s → (x : ℕ) → In (s .n) x → Step c x s (perform c s)
+pub one-step : (c : Command) (s : System) → s .ready ≡ true → Reached s → Accepts c s → (x : ℕ) → In (s .n) x → Step c x s (perform c s)
 unfolding perform
-step (SetUp n period) s r h (nr, a1, a2, a3, a4) x ix = absurd (true≢false (sym r ∙ nr))
-step (Start p) s r h (r′, ip, d, few) x ix =
+one-step (SetUp n period) s r h (nr, a1, a2, a3, a4) x ix = absurd (true≢false (sym r ∙ nr))
+one-step (Start p) s r h (r′, ip, d, few) x ix =
     let y : Station = started p (s .n) (s .period) (s .tick) (station s p) in
-    let hp : p ≤ 8 = omega (arith, ip .high, h .sound .n-high) in
     changed-step (Start p) s h p ip y x ix
     (λ e. (
-      started-elim (λ z. z .incarnation ≡ cond (eqb p x) (suc (counts s x)) (counts s x)) p (s .n) (s .period) (s .tick) (station s p) (ip .low) hp (λ v t i j k l m. rw (e, eq-eqb p p refl) (omega arith)),
-      started-elim (λ z. z .up ≡ cond (eqb p x) true (station s x .up)) p (s .n) (s .period) (s .tick) (station s p) (ip .low) hp (λ v t i j k l m. rw (e, eq-eqb p p refl)),
+      started-count p (s .n) (s .period) (s .tick) (station s p) ∙ rw (e, eq-eqb p p refl) (omega arith),
+      started-up p (s .n) (s .period) (s .tick) (station s p) ∙ rw (e, eq-eqb p p refl),
     ))
     (λ ne. (rw (ne-eqb p x (λ i. ne (sym i))), rw (ne-eqb p x (λ i. ne (sym i)))))
-step (Crash p) s r h (r′, ip, u) x ix =
+one-step (Crash p) s r h (r′, ip, u) x ix =
     changed-step (Crash p) s h p ip (crashed (station s p)) x ix
-    (λ e. (
-      crashed-elim (λ z. z .incarnation ≡ counts s x) (station s p) (rw e),
-      crashed-elim (λ z. z .up ≡ cond (eqb p x) false (station s x .up)) (station s p) (rw (e, eq-eqb p p refl)),
-    ))
+    (λ e. (crashed-count (station s p) ∙ rw e, crashed-up (station s p) ∙ rw (e, eq-eqb p p refl)))
     (λ ne. (refl, rw (ne-eqb p x (λ i. ne (sym i)))))
-step (Link p q d) s r h a x ix = record { count = refl; up = refl }
-step (Run t) s r h (r′, l, room) x ix = ticks-step t s h room x ix
-step (Lose p q) s r h a x ix = record { count = refl; up = refl }
-step Report s r h a x ix = record { count = refl; up = refl }
+one-step (Link p q d) s r h a x ix = record { count = refl; up = refl }
+one-step (Run t) s r h (r′, l, room) x ix = ticks-step t s h room x ix
+one-step (Lose p q) s r h a x ix = record { count = refl; up = refl }
+one-step Report s r h a x ix = record { count = refl; up = refl }
 
 -- a system that is set up stays so, with its stations
 pub ready-after : (c : Command) (s : System) → s .ready ≡ true → Accepts c s → perform c s .ready ≡ true
@@ -138,7 +133,7 @@ ready-after (SetUp n period) s r (nr, a1, a2, a3, a4) = absurd (true≢false (sy
 ready-after (Start p) s r a = r
 ready-after (Crash p) s r a = r
 ready-after (Link p q d) s r a = r
-ready-after (Run t) s r a = Rattle.election.proofs.TickSound.ticks-ready t s ∙ r
+ready-after (Run t) s r a = ticks-ready t s ∙ r
 ready-after (Lose p q) s r a = r
 ready-after Report s r a = r
 
@@ -168,9 +163,9 @@ tied (c ∷ cs) s r h (t, a) =
     record {
       same-n = rest .same-n ∙ e;
       counted = λ x ix.
-          let one : Step c x s (perform c s) = step c s r (h .reached r) k x ix in
+          let one : Step c x s (perform c s) = one-step c s r (h .reached r) k x ix in
           rest .counted x (rw e ix) ∙ ap (λ (z : ℕ). z + starts x cs) (one .count) ∙ starts-more x c cs (counts s x);
       latest = λ x ix.
-          let one : Step c x s (perform c s) = step c s r (h .reached r) k x ix in
+          let one : Step c x s (perform c s) = one-step c s r (h .reached r) k x ix in
           rest .latest x (rw e ix) ∙ ap (λ z. isUp z x cs) (one .up) ∙ up-more x c cs (station s x .up);
     }

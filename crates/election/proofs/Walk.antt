@@ -3,16 +3,16 @@ use mathlib.Core.Path.{_≡_, refl, sym, ap, subst, _∙_}
 use mathlib.Core.Logic.{_≢_}
 use mathlib.Core.Bool.{Bool, true, false, cond, not}
 use mathlib.Core.List.{List, [], _∷_, _++_}
-use Prim.Native.Nat.{ℕ, zero, suc, _+_, _-_, _*_, _≤_, _<_, zero-le}
+use Prim.Native.Nat.{ℕ, zero, suc, _+_, _≤_, _<_, zero-le}
 use native.Mathlib.Nat.{le-of-eq, le-trans}
 use native.Mathlib.Omega.{arith}
 use lib.Dec.{eqb}
 use borrow.Author.Tests.{eqb-true}
 use Rattle.lists.specs.Every.{All}
-use Rattle.lists.specs.First.{firstFailed}
 use Rattle.lists.specs.Test.{allTo}
 use Rattle.lists.proofs.Every.{all-left, all-right}
-use Rattle.election.specs.Commands.{Command, SetUp, Start, Crash, Link, Run, Lose, Report, decode, tests, withDelay, withoutMessages, perform}
+use Rattle.lists.proofs.Test.{all-same}
+use Rattle.election.specs.Commands.{Command, SetUp, Start, Crash, Link, Run, Lose, Report, decode, withDelay, withoutMessages, perform}
 use Rattle.election.specs.Listing.{agreed}
 use Rattle.election.specs.Settling.{accepted, after, moments, ticksOf, befores, divided, dividedTicks, Permitted, LosesNone, Each, Sent}
 use Rattle.election.specs.System.{station, delay, underway}
@@ -23,13 +23,12 @@ use Rattle.election.proofs.Accepting.{Accepts, accepts, ruling-tests}
 use Rattle.election.proofs.Calm.{Stretch}
 use Rattle.election.proofs.Counting.{agrees, split, potOf, pots, Budget, pay-tick}
 use Rattle.election.proofs.Follower.{spare}
-use Rattle.election.proofs.Invariant.{Mail, END, Inv, Fine, soonest, in-s}
-use Rattle.election.proofs.Places.{In, widen, tick-tick, tick-n}
+use Rattle.election.proofs.Invariant.{Coming, END, Inv, Fine, soonest, in-s}
+use Rattle.election.proofs.Places.{In, seat-in, widen, tick-tick}
 use Rattle.election.proofs.Potential.{potIf, Phase}
-use Rattle.election.proofs.Reached.{tick-up}
 use Rattle.election.proofs.Reaching.{lost-elim, lose-reached, delay-reached}
-use Rattle.election.proofs.Steps.{sender-in}
-use Rattle.election.proofs.Sums.{sum-le, all-same, failed}
+use Rattle.election.proofs.Steps.{tick-up}
+use Rattle.election.proofs.Sums.{sum-le, failed}
 
 -- the steady heads are those that are up
 abbrev pub Says : Stretch → System → Type 0
@@ -41,7 +40,7 @@ unfolding agreed
 split-divided K x e says =
     let same : agreed x (K .L) ≡ allTo (K .n) (agrees K x) =
     ap (λ m. allTo m (λ k. cond (station x (k + 1) .up) (eqb (station x (k + 1) .leader) (K .L)) true)) e
-    ∙ all-same (K .n) _ (agrees K x) (λ k l. ap (λ b. cond b (eqb (station x (k + 1) .leader) (K .L)) true) (says (k + 1) (sender-in (K .n) k l))) in
+    ∙ all-same (K .n) _ (agrees K x) (λ k l. ap (λ b. cond b (eqb (station x (k + 1) .leader) (K .L)) true) (says (k + 1) (seat-in (K .n) k l))) in
     rw same (turn (allTo (K .n) (agrees K x)))
   where
     turn : (b : Bool) → cond (not b) 1 0 ≡ failed b
@@ -103,7 +102,7 @@ module _ (K : Stretch) (x : System) (a b : ℕ) (ia : In (x .n) a) (ib : In (x .
         least = h .least;
         calm = h .calm;
         mail = λ q p iq ip d u.
-            lost-elim x a b (wide a ia) (wide b ib) (All (Mail K (x .tick) q)) q p (wide q (in-s K x h q iq)) (wide p (in-s K x h p ip)) (h .mail q p iq ip d u) (λ e f. tt);
+            lost-elim x a b (wide a ia) (wide b ib) (All (Coming K (x .tick) q)) q p (wide q (in-s K x h q iq)) (wide p (in-s K x h p ip)) (h .mail q p iq ip d u) (λ e f. tt);
         next-lo = h .next-lo;
         next-hi = h .next-hi;
         phases = λ p ip u pL.
@@ -122,7 +121,7 @@ module _ (K : Stretch) (x : System) (a b : ℕ) (ia : In (x .n) a) (ib : In (x .
 
           go : (t : Bool) → K .steady (k + 1) ≡ t → cond t (f (underway lost (K .L) (k + 1))) 0 ≤ cond t (f (underway x (K .L) (k + 1))) 0
           go false e = zero-le
-          go true u = le-of-eq (ap f (same-underway (K .L) (k + 1) (K .L-in) (sender-in (K .n) k l) (K .L-steady) u))
+          go true u = le-of-eq (ap f (same-underway (K .L) (k + 1) (K .L-in) (seat-in (K .n) k l) (K .L-steady) u))
 
 delay-inv : (K : Stretch) (x : System) (a b d : ℕ) → In (x .n) a → In (x .n) b → a ≢ b → d ≤ 64 → Inv K x → Inv K (withDelay a b d x)
 delay-inv K x a b d ia ib ne few h =

@@ -2,14 +2,15 @@
 use mathlib.Core.Path.{_≡_}
 use mathlib.Core.Logic.{_≢_}
 use mathlib.Core.List.{List}
-use mathlib.Core.Bool.{true}
+use mathlib.Core.Bool.{true, false}
 use Prim.Native.Nat.{ℕ, _<_, _≤_}
 use lib.ListN.{length}
 use Rattle.station.specs.Fit.{lastTick}
 use Rattle.election.specs.Commands.{command}
 use Rattle.election.specs.Schedule.{schedule}
+use Rattle.election.specs.Settling.{commands, starts, isUp}
 use Rattle.election.specs.Sound.{sound}
-use Rattle.election.specs.System.{places, fresh}
+use Rattle.election.specs.System.{places, station, fresh}
 use Rattle.election.specs.Tick.{underwayAfter}
 use Rattle.election.specs.declared.System.{System}
 
@@ -35,3 +36,21 @@ RefusedChangesNothing =
 -- a schedule never meets an unsound system
 abbrev pub NeverUnsound : Type 0
 NeverUnsound = (bytes : List ℕ) → schedule bytes .refusal ≢ 15
+
+-- after an accepted schedule a head's count is the number of its accepted starts: a worn-out head never looks young
+abbrev pub CountsStarts : Type 0
+CountsStarts =
+    (bytes : List ℕ) → schedule bytes .refusal ≡ 0 → (p : ℕ) → 1 ≤ p → p ≤ schedule bytes .system .n
+    → station (schedule bytes .system) p .incarnation ≡ starts p (commands bytes)
+
+-- and it is up exactly if the latest accepted of its starts and crashes is a start
+abbrev pub UpIsLatest : Type 0
+UpIsLatest =
+    (bytes : List ℕ) → schedule bytes .refusal ≡ 0 → (p : ℕ) → 1 ≤ p → p ≤ schedule bytes .system .n
+    → station (schedule bytes .system) p .up ≡ isUp false p (commands bytes)
+
+-- no command lowers a count, from every sound system that is set up
+abbrev pub CountsNeverFall : Type 0
+CountsNeverFall =
+    (s : System) (bytes : List ℕ) → sound s ≡ true → s .ready ≡ true → (p : ℕ) → 1 ≤ p → p ≤ s .n
+    → station s p .incarnation ≤ station (command s bytes .system) p .incarnation

@@ -1,7 +1,10 @@
+-- The election as definitions, and what is claimed of it.
+pub mod Breaches
 pub mod Claims
 pub mod Commands
 pub mod Handed
 pub mod Idle
+pub mod Instance
 pub mod Listing
 pub mod Order
 pub mod Rehearsals

@@ -1,11 +1,13 @@
 -- The starred rehearsals of document 01, and one row for each error that the papers warn of and that no other theorem rules out.
 use mathlib.Core.Path.{_≡_}
-use mathlib.Core.List.{List, [], _∷_, _++_}
+use mathlib.Core.List.{List, [], _∷_, _++_, map}
+use mathlib.Core.Bool.{Bool, true, false}
 use Prim.Native.Nat.{ℕ}
+use lib.ListN.{replicate}
 use Rattle.station.specs.Order.{entry}
 use Rattle.election.specs.Listing.{output}
 use Rattle.election.specs.Schedule.{End, schedule}
-use Rattle.election.specs.System.{fresh, initial, station, sentBy}
+use Rattle.election.specs.System.{station, sentBy}
 use Rattle.election.specs.declared.System.{System}
 
 -- a schedule's bytes, what is looked at, and what must be seen
@@ -106,9 +108,45 @@ errors =
     ∷ record { bytes = at20 ++ link12 0 ++ run 13; view = inLast sentByFirst; seen = 0 ∷ 2 ∷ [] }
     ∷ []
 
+-- the whole of a system in which nothing has happened: whether it is set up, n, η, the kept leaders, the delays
+abbrev pub untouched : Bool → ℕ → ℕ → List ℕ → List ℕ → System
+untouched ready n period leaders delays =
+    record {
+      ready = ready;
+      n = n;
+      period = period;
+      tick = 0;
+      stations =
+          map
+          (λ leader.
+          record {
+            incarnation = 0;
+            stable = leader;
+            up = false;
+            leader = 0;
+            timer = 0;
+            slot = 0;
+            recovering = false;
+            recovered = replicate 8 0;
+            timeouts = replicate 8 0;
+          })
+          leaders;
+      sent = replicate 8 0;
+      delays = delays;
+      links = replicate 64 (record { used = 0; messages = replicate 4 (record { sent = 0; due = 0; counts = replicate 8 0 }) });
+    }
+
+-- the empty schedule leaves the fresh system, all zero
+abbrev pub FreshWhole : Type 0
+FreshWhole = schedule [] .system ≡ untouched false 0 0 (replicate 8 0) (replicate 64 0)
+
+-- set up with two stations and η 16: each keeps itself, the links 1 to 2 and 2 to 1 have delay 1, and there is no other link
+abbrev pub SetUpWhole : Type 0
+SetUpWhole = schedule (0x01 ∷ 0x02 ∷ 0x10 ∷ []) .system ≡ untouched true 2 16 (1 ∷ 2 ∷ replicate 6 0) (0 ∷ 1 ∷ replicate 6 0 ++ (1 ∷ replicate 55 0))
+
 -- the tables
 abbrev pub Rehearsed : Type 0
 Rehearsed = Hold rehearsals
 
 abbrev pub NoneOfTheErrors : Type 0
-NoneOfTheErrors = Hold errors
+NoneOfTheErrors = Hold errors × FreshWhole × SetUpWhole

@@ -1,6 +1,6 @@
 -- A schedule: commands in order from the fresh system, up to the first refusal.
 use mathlib.Core.List.{List, [], _∷_}
-use mathlib.Core.Bool.{Bool, true, false, cond}
+use mathlib.Core.Bool.{true, false, cond}
 use Prim.Native.Nat.{ℕ, zero, suc, _+_}
 use lib.ListN.{length, drop}
 use lib.Dec.{ltb, eqb}

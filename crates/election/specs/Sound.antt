@@ -1,5 +1,4 @@
 -- Soundness, clause by clause (the last paragraph of "What is turned down"). All sums are over the natural numbers.
-use mathlib.Core.List.{List}
 use mathlib.Core.Bool.{Bool, true, cond, not, _&&_, _||_}
 use Prim.Native.Nat.{ℕ, _+_, _*_}
 use lib.ListN.{getD}

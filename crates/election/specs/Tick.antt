@@ -1,5 +1,5 @@
 -- One tick ("One tick of the desk" of document 01). Deliveries to one station never touch another, so a tick is defined station by
--- station and link by link from the system before it; proofs/Order.antt shows that this is the paper's order.
+-- station and link by link from the system before it; specs/Order.antt says in what sense this is the paper's order.
 use mathlib.Core.List.{List, [], _∷_, _++_}
 use mathlib.Core.Bool.{Bool, cond, not, _&&_}
 use Prim.Native.Nat.{ℕ, zero, suc, _+_, _-_}
@@ -9,8 +9,7 @@ use Rattle.lists.specs.Entries.{upTo}
 use Rattle.lists.specs.Fold.{each}
 use Rattle.station.specs.Rules.{heard, expired, slotted, sends}
 use Rattle.station.specs.declared.Station.{Station}
-use Rattle.election.specs.System.{noStation, noLink, station, from, to, delay, sentBy, underway, isLink, holding}
-use Rattle.election.specs.declared.Link.{Link}
+use Rattle.election.specs.System.{noStation, noLink, station, from, to, delay, underway, isLink, holding}
 use Rattle.election.specs.declared.Message.{Message}
 use Rattle.election.specs.declared.System.{System}
 

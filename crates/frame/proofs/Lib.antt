@@ -1,3 +1,4 @@
+-- The LEADER frame: what the reading and writing proofs rest on.
 pub mod Accepted
 pub mod Body
 pub mod Example

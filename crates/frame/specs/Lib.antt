@@ -1,3 +1,4 @@
+-- The LEADER frame.
 pub mod Claims
 pub mod Frame
 pub mod Reading

@@ -24,3 +24,40 @@ count-one (suc n) j t l e h = go (ℕ-discrete j n) (λ i. count-one n j t i e (
         let z : countTo n t ≡ 0 = count-none n t (λ k m. h k (omega arith) (λ i. omega arith)) in
         rw (sym q, e, q, z)
     go (no q) r = rw (h n (omega arith) (λ i. q (sym i))) (r (omega arith))
+
+-- a test that holds of one number alone
+pub record Once (n : ℕ) (t : ℕ → Bool) : Type 0 where
+  pub place : ℕ
+  pub below : place < n
+  pub there : t place ≡ true
+  pub elsewhere : (k : ℕ) → k < n → k ≢ place → t k ≡ false
+
+-- a count of 0 is of a test that fails everywhere
+pub none-counted : (n : ℕ) (t : ℕ → Bool) → countTo n t ≡ 0 → (k : ℕ) → k < n → t k ≡ false
+unfolding countTo each
+none-counted zero t e k l = absurd (omega arith)
+none-counted (suc n) t e k l = last (t n) refl e (λ z i. none-counted n t z k i)
+  where
+    last : (b : Bool) → t n ≡ b → cond b (countTo n t + 1) (countTo n t) ≡ 0 → (countTo n t ≡ 0 → k < n → t k ≡ false) → t k ≡ false
+    last true f e r = absurd (omega arith)
+    last false f e r = at (ℕ-discrete k n)
+      where
+        at : Dec (k ≡ n) → t k ≡ false
+        at (yes i) = rw i f
+        at (no i) = r e (omega arith)
+
+-- a count of 1 is of a test that holds once
+pub one-counted : (n : ℕ) (t : ℕ → Bool) → countTo n t ≡ 1 → Once n t
+unfolding countTo each
+one-counted zero t e = absurd (omega arith)
+one-counted (suc n) t e = last (t n) refl e (one-counted n t)
+  where
+    last : (b : Bool) → t n ≡ b → cond b (countTo n t + 1) (countTo n t) ≡ 1 → (countTo n t ≡ 1 → Once n t) → Once (suc n) t
+    last true f e r =
+        let z : countTo n t ≡ 0 = omega arith in
+        record { place = n; below = omega arith; there = f; elsewhere = λ k l ne. none-counted n t z k (omega arith) }
+    last false f e r = let o : Once n t = r e in record { place = o .place; below = omega (arith, o .below); there = o .there; elsewhere = λ k l ne. at o k l ne (ℕ-discrete k n) }
+      where
+        at : (o : Once n t) (k : ℕ) → k < suc n → k ≢ o .place → Dec (k ≡ n) → t k ≡ false
+        at o k l ne (yes i) = rw i f
+        at o k l ne (no i) = o .elsewhere k (omega arith) ne

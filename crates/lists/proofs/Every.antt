@@ -3,6 +3,11 @@ use mathlib.Core.List.{List, [], _∷_, _++_}
 use Rattle.lists.specs.Every.{All}
 
 module _ {A : Type 0} where
+  -- what holds of everything
+  pub all-every : (P : A → Type 0) → ((x : A) → P x) → (xs : List A) → All P xs
+  all-every P f [] = tt
+  all-every P f (x ∷ xs) = (f x, all-every P f xs)
+
   pub all-map : (P Q : A → Type 0) → ((x : A) → P x → Q x) → (xs : List A) → All P xs → All Q xs
   all-map P Q f [] h = tt
   all-map P Q f (x ∷ xs) h = (f x (h .0), all-map P Q f xs (h .1))

@@ -1,3 +1,4 @@
+-- The laws of lists, counts, folds and tests.
 pub mod Bools
 pub mod Count
 pub mod Entries
@@ -6,4 +7,5 @@ pub mod Filter
 pub mod First
 pub mod Fold
 pub mod Largest
+pub mod Sets
 pub mod Test

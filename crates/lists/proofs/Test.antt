@@ -46,3 +46,9 @@ pub all-of : (n : ℕ) (t : ℕ → Bool) → ((k : ℕ) → k < n → t k ≡ t
 unfolding allTo
 all-of zero t h = refl
 all-of (suc n) t h = rw (all-of n t (λ k l. h k (omega arith)), h n (omega arith))
+
+-- two tests that say the same
+pub all-same : (n : ℕ) (t u : ℕ → Bool) → ((k : ℕ) → k < n → t k ≡ u k) → allTo n t ≡ allTo n u
+unfolding allTo
+all-same zero t u h = refl
+all-same (suc n) t u h = rw (all-same n t u (λ k l. h k (omega arith)), h n (omega arith))

@@ -1,3 +1,4 @@
+-- Lists: entries, tests, counts, folds.
 pub mod Count
 pub mod Entries
 pub mod Every

@@ -1,1 +1,2 @@
+-- The soundness test, seat by seat and place by place.
 pub mod Seats

@@ -1,3 +1,4 @@
+-- The function sender_in meets its contract.
 use borrow.Author.Tests.{le-leb, lt-leb}
 use Rattle.frame.specs.Frame.{senderIn}
 use Rattle.frame.proofs.sender_in.Statement.{statement}

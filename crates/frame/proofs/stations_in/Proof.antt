@@ -1,3 +1,4 @@
+-- The function stations_in meets its contract.
 use borrow.Author.Tests.{le-leb, lt-leb}
 use Rattle.frame.specs.Frame.{stationsIn}
 use Rattle.frame.proofs.stations_in.Statement.{statement}

@@ -1,3 +1,4 @@
+-- The function apart meets its contract.
 use borrow.Author.Needs.{needs}
 use Rattle.soundness.proofs.apart.Statement.{statement}
 use Rattle.soundness.proofs.apart.Tie as tie

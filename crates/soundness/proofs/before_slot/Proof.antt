@@ -1,3 +1,4 @@
+-- The function before_slot meets its contract.
 use Rattle.election.specs.Sound.{beforeSlot}
 use borrow.Author.Needs.{needs}
 use Rattle.soundness.proofs.before_slot.Statement.{statement}

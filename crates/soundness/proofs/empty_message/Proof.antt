@@ -1,3 +1,4 @@
+-- The function empty_message meets its contract.
 use Rattle.election.specs.Sound.{emptyMessage}
 use borrow.Author.Needs.{needs}
 use Rattle.soundness.proofs.empty_message.Statement.{statement}

@@ -1,14 +1,15 @@
-use mathlib.Core.Path.{_≡_, refl, sym, ap, _∙_}
-use mathlib.Core.Bool.{Bool, true, false, cond}
-use Prim.Native.Nat.{ℕ, _+_, _-_, _<_, _≤_}
+-- The function empty_places meets its contract.
+use mathlib.Core.Path.{_≡_, sym}
+use mathlib.Core.Bool.{true}
+use Prim.Native.Nat.{_-_, _≤_}
 use native.Mathlib.Omega.{arith}
 use Rattle.lists.proofs.Bools.{holds, fails}
 use Rattle.lists.specs.Test.{allTo}
 use Rattle.lists.proofs.Test.{all-none, all-turn, all-not}
 use lib.ListN.{getD}
 use Rattle.election.specs.System.{noMessage}
-use Rattle.election.specs.Sound.{messageAt, emptyMessage}
-use Rattle.soundness.specs.Parts.{emptyPlaces, used, spaced}
+use Rattle.election.specs.Sound.{emptyMessage}
+use Rattle.soundness.specs.Parts.{emptyPlaces}
 use borrow.Author.Needs.{needs}
 use Rattle.soundness.proofs.empty_places.Statement.{statement}
 use Rattle.soundness.proofs.empty_places.Tie as tie

@@ -1,3 +1,4 @@
+-- The function empty_station meets its contract.
 use Rattle.election.specs.Sound.{emptyStation}
 use borrow.Author.Needs.{needs}
 use Rattle.soundness.proofs.empty_station.Statement.{statement}

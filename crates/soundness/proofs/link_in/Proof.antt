@@ -1,5 +1,5 @@
-use borrow.Author.Tests.{eq-eqb, ne-eqb, lt-ltb, le-ltb, le-leb, lt-leb}
-use mathlib.Core.Path.{sym}
+-- The function link_in meets its contract.
+use borrow.Author.Tests.{le-leb, lt-leb}
 use Rattle.election.specs.Sound.{linkIn}
 use Rattle.soundness.specs.Parts.{placed, ordered}
 use borrow.Author.Needs.{needs}

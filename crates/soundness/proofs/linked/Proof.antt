@@ -1,3 +1,4 @@
+-- The function linked meets its contract.
 use mathlib.Core.Path.{sym, _∙_}
 use Rattle.soundness.specs.Parts.{linked}
 use borrow.Author.Needs.{needs}

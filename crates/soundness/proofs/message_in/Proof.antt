@@ -1,3 +1,4 @@
+-- The function message_in meets its contract.
 use Rattle.election.specs.Sound.{messageIn}
 use borrow.Author.Needs.{needs}
 use Rattle.soundness.proofs.message_in.Statement.{statement}

@@ -1,4 +1,5 @@
-use borrow.Author.Tests.{eq-eqb, ne-eqb, lt-ltb, le-ltb, le-leb, lt-leb}
+-- The function seated meets its contract.
+use borrow.Author.Tests.{lt-ltb, le-ltb}
 use Rattle.soundness.specs.Parts.{seated}
 use borrow.Author.Needs.{needs}
 use Rattle.soundness.proofs.seated.Statement.{statement}

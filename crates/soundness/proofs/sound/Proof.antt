@@ -1,7 +1,7 @@
+-- The function sound meets its contract.
 use Rattle.soundness.proofs.Seats.{sound-off, sound-on}
-use mathlib.Core.Path.{sym, _∙_}
+use mathlib.Core.Path.{sym}
 use borrow.Author.Tests.{not-true, not-false}
-use Rattle.election.specs.Sound.{sound}
 use borrow.Author.Needs.{needs}
 use Rattle.soundness.proofs.sound.Statement.{statement}
 use Rattle.soundness.proofs.sound.Tie as tie

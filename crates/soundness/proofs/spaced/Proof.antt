@@ -1,5 +1,5 @@
-use borrow.Author.Tests.{eq-eqb, ne-eqb, lt-ltb, le-ltb, le-leb, lt-leb}
-use native.Mathlib.Omega.{arith}
+-- The function spaced meets its contract.
+use borrow.Author.Tests.{lt-ltb, le-ltb}
 use borrow.Author.Needs.{needs}
 use Rattle.soundness.proofs.spaced.Statement.{statement}
 use Rattle.soundness.proofs.spaced.Tie as tie

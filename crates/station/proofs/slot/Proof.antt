@@ -1,3 +1,4 @@
+-- The function slot meets its contract.
 use mathlib.Core.Path.{ap, sym, _∙_}
 use borrow.Author.Needs.{needs}
 use Rattle.lists.proofs.Bools.{holds, fails}

@@ -1,3 +1,4 @@
+-- The function fit::alive meets its contract.
 use borrow.Author.Needs.{needs}
 use Rattle.station.specs.Fit.{alive}
 use Rattle.station.proofs.fit.alive.Statement.{statement}

@@ -1,3 +1,4 @@
+-- The function fit::cleared meets its contract.
 use borrow.Author.Needs.{needs}
 use Rattle.station.specs.Fit.{cleared}
 use Rattle.station.proofs.fit.cleared.Statement.{statement}

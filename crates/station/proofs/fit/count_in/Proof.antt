@@ -1,3 +1,4 @@
+-- The function fit::count_in meets its contract.
 use borrow.Author.Tests.{lt-ltb, le-ltb}
 use Rattle.station.proofs.fit.count_in.Statement.{statement}
 use Rattle.station.proofs.fit.count_in.Tie as tie

@@ -1,3 +1,4 @@
+-- The function fit::ended meets its contract.
 use borrow.Author.Needs.{needs}
 use Rattle.station.specs.Fit.{ended}
 use Rattle.station.proofs.fit.ended.Statement.{statement}

@@ -1,3 +1,4 @@
+-- The function fit::fit meets its contract.
 use borrow.Author.Needs.{needs}
 use Rattle.station.proofs.Tests.{fit-up, fit-down}
 use Rattle.station.proofs.fit.fit.Statement.{statement}

@@ -1,3 +1,4 @@
+-- The function fit::fit_crash meets its contract.
 use borrow.Author.Needs.{needs}
 use Rattle.station.specs.Fit.{fitCrash}
 use Rattle.station.proofs.fit.fit_crash.Statement.{statement}

@@ -1,3 +1,4 @@
+-- The function fit::fit_expire meets its contract.
 use borrow.Author.Needs.{needs}
 use Rattle.station.specs.Fit.{fitExpire}
 use Rattle.station.proofs.fit.fit_expire.Statement.{statement}

@@ -1,3 +1,4 @@
+-- The function fit::fit_hear meets its contract.
 use borrow.Author.Needs.{needs}
 use Rattle.station.specs.Fit.{fitHear}
 use Rattle.station.proofs.fit.fit_hear.Statement.{statement}

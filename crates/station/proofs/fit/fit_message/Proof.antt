@@ -1,3 +1,4 @@
+-- The function fit::fit_message meets its contract.
 use borrow.Author.Needs.{needs}
 use Rattle.station.specs.Fit.{fitMessage}
 use Rattle.station.proofs.fit.fit_message.Statement.{statement}

@@ -1,3 +1,4 @@
+-- The function fit::fit_slot meets its contract.
 use borrow.Author.Needs.{needs}
 use Rattle.station.specs.Fit.{fitSlot}
 use Rattle.station.proofs.fit.fit_slot.Statement.{statement}

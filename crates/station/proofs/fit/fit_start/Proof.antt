@@ -1,3 +1,4 @@
+-- The function fit::fit_start meets its contract.
 use borrow.Author.Needs.{needs}
 use Rattle.station.specs.Fit.{fitStart}
 use Rattle.station.proofs.fit.fit_start.Statement.{statement}

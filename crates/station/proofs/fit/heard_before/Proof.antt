@@ -1,3 +1,4 @@
+-- The function fit::heard_before meets its contract.
 use borrow.Author.Needs.{needs}
 use Rattle.station.specs.Fit.{heardBefore}
 use Rattle.station.proofs.fit.heard_before.Statement.{statement}

@@ -1,3 +1,4 @@
+-- The function fit::just_set meets its contract.
 use borrow.Author.Needs.{needs}
 use Rattle.station.specs.Fit.{justSet}
 use Rattle.station.proofs.fit.just_set.Statement.{statement}

@@ -1,3 +1,4 @@
+-- The function fit::kept_in meets its contract.
 use mathlib.Core.Path.{refl}
 use Rattle.station.specs.Fit.{keptIn}
 use Rattle.station.proofs.fit.kept_in.Statement.{statement}

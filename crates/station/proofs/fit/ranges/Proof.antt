@@ -1,3 +1,4 @@
+-- The function fit::ranges meets its contract.
 use mathlib.Core.Path.{refl}
 use Rattle.station.specs.Fit.{ranges}
 use Rattle.station.proofs.fit.ranges.Statement.{statement}

@@ -1,3 +1,4 @@
+-- The function fit::slot_in meets its contract.
 use borrow.Author.Needs.{needs}
 use Rattle.station.specs.Fit.{slotIn}
 use Rattle.station.proofs.fit.slot_in.Statement.{statement}

@@ -1,3 +1,4 @@
+-- The function fit::standing meets its contract.
 use borrow.Author.Needs.{needs}
 use Rattle.station.specs.Fit.{standing}
 use Rattle.station.proofs.fit.standing.Statement.{statement}

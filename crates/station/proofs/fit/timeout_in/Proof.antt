@@ -1,3 +1,4 @@
+-- The function fit::timeout_in meets its contract.
 use mathlib.Core.Path.{sym, _∙_}
 use borrow.Author.Needs.{needs}
 use Rattle.station.proofs.fit.timeout_in.Statement.{statement}

@@ -1,3 +1,4 @@
+-- The function fit::unended meets its contract.
 use borrow.Author.Needs.{needs}
 use Rattle.station.specs.Fit.{unended}
 use Rattle.station.proofs.fit.unended.Statement.{statement}

@@ -1,3 +1,4 @@
+-- The function print::Line::text meets its contract.
 use mathlib.Core.Path.{_≡_}
 use Prim.Native.Nat.{_-_}
 use lib.ListN.{length}

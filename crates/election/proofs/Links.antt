@@ -6,17 +6,18 @@ use Prim.Native.Nat.{ℕ, suc, _+_, _-_, _<_, _≤_}
 use native.Mathlib.Numerals.{add-one}
 use native.Mathlib.Decide.{decLt}
 use native.Mathlib.Omega.{arith}
-use lib.ListN.{length, getD, drop, replicate, List·getD-append, List·getD-eq-default, getD-replicate}
+use lib.ListN.{length, getD, drop, replicate, List·getD-append, getD-replicate}
 use lib.Seq.{getD-append-add, getD-drop}
 use lib.Dec.{leb, ltb}
 use borrow.Author.Tests.{ltb-true, leb-true, lt-ltb, le-ltb, le-leb}
 use Rattle.lists.specs.Entries.{over}
 use Rattle.lists.specs.Test.{allTo}
 use Rattle.lists.proofs.Bools.{both, three, four}
+use Rattle.lists.proofs.Sets.{within-list}
 use Rattle.lists.proofs.Test.{all-at, all-of}
 use Rattle.station.specs.Fit.{countsIn}
 use Rattle.station.specs.declared.Station.{Station}
-use Rattle.station.proofs.Tests.{of-counts}
+use Rattle.station.proofs.Tests.{Counts, of-counts}
 use Rattle.station.proofs.Vectors.{zeros-at}
 use Rattle.election.specs.System.{places, longestDelay, noMessage, unused, messages, holding}
 use Rattle.election.specs.Sound.{emptyMessage, messageIn, beforeSlot, messageAt, linkIn}
@@ -46,15 +47,15 @@ module _ (n period tick : ℕ) (sender : Station) (m : Message) where
         before = λ u. leb-true (m .sent + period) (sender .slot) (ap (λ x. cond x (leb (m .sent + period) (sender .slot)) true) (sym u) ∙ b);
       }
 
-  of-before : Posted n period tick sender m → (b : Bool) → sender .up ≡ b → cond b (leb (m .sent + period) (sender .slot)) true ≡ true
-  of-before p true u = le-leb (m .sent + period) (sender .slot) (p .before u)
-  of-before p false u = refl
+  of-beforeSlot : Posted n period tick sender m → (b : Bool) → sender .up ≡ b → cond b (leb (m .sent + period) (sender .slot)) true ≡ true
+  of-beforeSlot p true u = le-leb (m .sent + period) (sender .slot) (p .before u)
+  of-beforeSlot p false u = refl
 
   pub of-posted : Posted n period tick sender m → (messageIn n tick m && beforeSlot period sender m) ≡ true
   unfolding messageIn beforeSlot
   of-posted p =
       rw (le-leb (m .sent) tick (p .sent-by), lt-ltb tick (m .due) (p .due-after), le-leb (m .due) (m .sent + longestDelay) (p .due-by), p .counts)
-      (of-before p (sender .up) refl)
+      (of-beforeSlot p (sender .up) refl)
 
 -- a link from a sender, place by place
 pub record Linked (n period tick : ℕ) (sender : Station) (l : Link) : Type 0 where
@@ -108,13 +109,8 @@ module _ (n period tick : ℕ) (sender : Station) (l : Link) where
   -- its messages, as a list
   pub linked-spaced : Linked n period tick sender l → Spaced (Posted n period tick sender) period 0 (messages l)
   unfolding messages
-  linked-spaced f = spaced-take 0 (l .used) (l .messages) (λ k h. inside k (f .held k h) (decLt k (length (l .messages)))) (f .held) (f .apart) (λ h. omega arith)
-    where
-      inside : (k : ℕ) → Posted n period tick sender (messageAt l k) → Dec (k < length (l .messages)) → k < length (l .messages)
-      inside k p (yes i) = i
-      inside k p (no i) =
-          let e : messageAt l k .due ≡ 0 = ap (λ x. x .due) (List·getD-eq-default (l .messages) noMessage {n = k} (omega arith)) in
-          absurd (omega (arith, p .due-after))
+  linked-spaced f =
+      spaced-take 0 (l .used) (l .messages) (λ k h. within-list (λ (m : Message). tick < m .due) (l .messages) k noMessage (λ i. omega arith) (f .held k h .due-after)) (f .held) (f .apart) (λ h. omega arith)
 
 -- what a link that holds up to four messages has at its places
 module _ (ms : List Message) (h : length ms ≤ 4) where
@@ -136,10 +132,14 @@ module _ (ms : List Message) (h : length ms ≤ 4) where
       ∙ ap (λ x. getD (replicate 4 unused) x noMessage) e
       ∙ getD-replicate 4 k unused noMessage i
 
--- an unused place is zero
+-- counts that are all zero are in range
+pub zeros-in : (n : ℕ) → Counts n (replicate 8 0)
+zeros-in n k h = omega (arith, zeros-at k)
+
+-- so an unused place is zero
 pub unused-empty : emptyMessage unused ≡ true
 unfolding emptyMessage
-unused-empty = of-counts 0 (replicate 8 0) (λ k h. omega (arith, zeros-at k))
+unused-empty = of-counts 0 (replicate 8 0) (zeros-in 0)
 
 module _ (n period tick : ℕ) (sender : Station) (ms : List Message) where
   pub holding-linked : length ms ≤ 4 → Spaced (Posted n period tick sender) period 0 ms → Linked n period tick sender (holding ms)

@@ -1,43 +1,27 @@
--- The bound of demand 3: the invariant where a stretch begins, and the count along its entries.
-use mathlib.Core.Path.{_≡_, refl, sym, ap, subst, _∙_}
+-- The invariant holds where a quiet stretch begins.
+use mathlib.Core.Path.{_≡_, refl, sym, _∙_}
 use mathlib.Core.Logic.{_≢_, _⊎_}
 use mathlib.Core.Logic._⊎_.{inl, inr}
-use mathlib.Core.Bool.{Bool, true, false, cond, not, _&&_}
-use mathlib.Core.List.{List, [], _∷_, _++_}
-use Prim.Native.Nat.{ℕ, zero, suc, _+_, _-_, _*_, _/_, _≤_, _<_, max, zero-le}
+use mathlib.Core.Bool.{true≢false, Bool, true, false, cond, _&&_}
+use Prim.Native.Nat.{ℕ, _+_, _-_, _*_, _≤_, _<_, max}
 use native.Mathlib.Decide.{ℕ-discrete}
-use native.Mathlib.Nat.{le-of-eq, le-trans}
 use native.Mathlib.Omega.{arith}
 use lib.Dec.{eqb}
-use lib.ListN.{take}
-use borrow.Author.Tests.{eqb-true, ne-eqb}
-use Rattle.lists.specs.Every.{All}
-use Rattle.lists.specs.First.{firstFailed}
+use borrow.Author.Tests.{ne-eqb}
 use Rattle.lists.specs.Largest.{maxTo}
-use Rattle.lists.specs.Test.{allTo}
-use Rattle.lists.proofs.Every.{all-left, all-right, all-both}
+use Rattle.lists.proofs.Every.{all-both}
 use Rattle.lists.proofs.Largest.{max-least}
 use Rattle.station.specs.Order.{entry}
-use Rattle.station.specs.declared.Station.{Station}
-use Rattle.station.proofs.Candidates.{keyOf}
-use Rattle.station.proofs.Tests.{Standing, Timer, fit-of}
-use Rattle.election.specs.Commands.{Command, SetUp, Start, Crash, Link, Run, Lose, Report, decode, tests, withDelay, withoutMessages, perform}
-use Rattle.election.specs.Listing.{agreed}
-use Rattle.election.specs.Settling.{accepted, after, moments, ticksOf, befores, divided, dividedTicks, Permitted, LosesNone, Each, Sent, Arriving, longestWait, longestTimeout, upHeads, bound}
-use Rattle.election.specs.System.{station, delay, underway}
-use Rattle.election.specs.Tick.{next, sending, tick, ticks}
-use Rattle.election.specs.declared.Message.{Message}
+use Rattle.station.proofs.Candidates.{key, keyOf}
+use Rattle.station.proofs.Tests.{fit-of}
+use Rattle.election.specs.Settling.{Arriving, longestWait, longestTimeout}
+use Rattle.election.specs.System.{station, underway}
 use Rattle.election.specs.declared.System.{System}
-use Rattle.election.proofs.Accepting.{Accepts, accepts, ruling-tests}
 use Rattle.election.proofs.Calm.{Sane, Stretch, keyL, Calm}
-use Rattle.election.proofs.Counting.{agrees, split, potOf, pots, heads, top, Budget, pay-tick}
-use Rattle.election.proofs.Follower.{spare}
-use Rattle.election.proofs.Invariant.{Mail, deadline, END, Inv, Fine, soonest, soonest-le, in-s}
-use Rattle.election.proofs.Places.{In, widen, tick-tick, tick-n}
-use Rattle.election.proofs.Potential.{tri, tri-double, potIf, Phase, early}
-use Rattle.election.proofs.Reached.{always, counts, Low, Reached, underway-due, tick-up}
-use Rattle.election.proofs.Reaching.{lost-elim, lose-reached, delay-reached}
-use Rattle.election.proofs.Sums.{sumTo, sum-le, failed}
+use Rattle.election.proofs.Invariant.{Inv, soonest-le}
+use Rattle.election.proofs.Places.{In}
+use Rattle.election.proofs.Potential.{early}
+use Rattle.election.proofs.Reached.{always, counts, Low, Reached, underway-due}
 
 -- L is the first of the up heads by its count and number
 pub record FirstUp (s : System) (L : ℕ) : Type 0 where
@@ -89,14 +73,14 @@ module _ (s : System) (h : Reached s) (d L : ℕ) (first : FirstUp s L) where
         L-steady = first .is-up;
       }
 
-  lower : (p : ℕ) → In (s .n) p → station s p .up ≡ true → keyL from-here ≤ 16 * counts s p + p
-  lower p ip u = go (ℕ-discrete p L)
+  L-least : (p : ℕ) → In (s .n) p → station s p .up ≡ true → keyL from-here ≤ key (counts s p) p
+  L-least p ip u = go (ℕ-discrete p L)
     where
-      by : (counts s L < counts s p) ⊎ ((counts s L ≡ counts s p) × (L < p)) → keyL from-here ≤ 16 * counts s p + p
+      by : (counts s L < counts s p) ⊎ ((counts s L ≡ counts s p) × (L < p)) → keyL from-here ≤ key (counts s p) p
       by (inl a) = omega (arith, first .inside .high, h .sound .n-high)
       by (inr a) = omega (arith, a .0, a .1)
 
-      go : Dec (p ≡ L) → keyL from-here ≤ 16 * counts s p + p
+      go : Dec (p ≡ L) → keyL from-here ≤ key (counts s p) p
       go (yes e) = rw e (omega arith)
       go (no ne) = by (first .fewest p ip u ne)
 
@@ -130,8 +114,8 @@ module _ (s : System) (h : Reached s) (d L : ℕ) (first : FirstUp s L) where
         reached = h;
         ups = λ p ip u. u;
         const = λ x ix u. refl;
-        surplus = λ p ip u ns. absurd (mathlib.Core.Bool.true≢false (sym u ∙ ns));
-        least = lower;
+        surplus = λ p ip u ns. absurd (true≢false (sym u ∙ ns));
+        least = L-least;
         calm = begin-calm;
         mail = λ q p iq ip ne u.
             all-both (λ m. (s .tick < m .due) × Low s m) (λ m. m .due ≤ s .tick + d) _ (λ m a b. record { ahead = a .0; low = λ x ix Sx. a .1 x ix; old = λ ne le. b }) (underway s q p)

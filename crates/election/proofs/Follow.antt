@@ -1,0 +1,19 @@
+-- One command of a schedule, accepted and refused.
+use mathlib.Core.Path.{_≡_}
+use mathlib.Core.Logic.{_≢_}
+use mathlib.Core.List.{List, _∷_}
+use Prim.Native.Nat.{ℕ, suc, _+_}
+use lib.ListN.{drop}
+use borrow.Author.Tests.{eq-eqb, ne-eqb}
+use Rattle.election.specs.Commands.{command}
+use Rattle.election.specs.Schedule.{follow}
+use Rattle.election.specs.declared.System.{System}
+
+module _ (fuel : ℕ) (s : System) (at b : ℕ) (bytes : List ℕ) where
+  pub follow-yes : command s (b ∷ bytes) .refusal ≡ 0 → follow (suc fuel) s at (b ∷ bytes) ≡ follow fuel (command s (b ∷ bytes) .system) (at + command s (b ∷ bytes) .length) (drop (command s (b ∷ bytes) .length) (b ∷ bytes))
+  unfolding follow
+  follow-yes t = rw (eq-eqb (command s (b ∷ bytes) .refusal) 0 t, follow)
+
+  pub follow-no : command s (b ∷ bytes) .refusal ≢ 0 → follow (suc fuel) s at (b ∷ bytes) .refusal ≡ command s (b ∷ bytes) .refusal
+  unfolding follow
+  follow-no ne = rw (ne-eqb (command s (b ∷ bytes) .refusal) 0 ne, follow)

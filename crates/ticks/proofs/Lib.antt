@@ -1,0 +1,4 @@
+-- A tick, as the code goes through it.
+pub mod After
+pub mod Ready
+pub mod Turns

@@ -1,0 +1,24 @@
+-- The function rules::link_next meets its contract.
+use borrow.Author.Tests.{eq-eqb, ne-eqb}
+use Rattle.ticks.proofs.Turns.{cond-yes, cond-no}
+use mathlib.Core.Path.{sym, _∙_}
+use Rattle.ticks.proofs.rules.link_next.Statement.{statement}
+use Rattle.ticks.proofs.rules.link_next.Tie as tie
+use Rattle.ticks.proofs.rules.link_next.Reads as reads
+use Rattle.ticks.proofs.rules.link_next.Lts as lts
+use Rattle.ticks.proofs.rules.link_after.Reads as link-after-reads
+
+-- src/rules.rt:189:9
+returns : tie.Need-returns
+returns c = sym (cond-yes _ _ (eq-eqb _ _ (c .if1 .taken)))
+
+-- src/rules.rt:191:5
+link-after-requires : tie.Need-link-after-requires
+link-after-requires c κs = (c .before .pre .0 .0, c .before .pre .0 .1, c .before .pre .1 (c .if1 .left))
+
+-- src/rules.rt:175:1
+returns-2 : tie.Need-returns-2
+returns-2 c = c .link-after .ensures ∙ sym (cond-no _ _ (ne-eqb _ _ (c .before .if1 .left)))
+
+pub link-next-spec : {M : Type 1} → statement M
+link-next-spec = tie.close (tie.spec returns link-after-requires returns-2)

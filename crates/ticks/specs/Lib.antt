@@ -1,0 +1,2 @@
+-- What a tick is given, and its parts.
+pub mod Sending

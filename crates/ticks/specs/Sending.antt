@@ -1,0 +1,42 @@
+-- What a tick is required to be given, and its parts as the code goes.
+use mathlib.Core.Path.{_≡_}
+use mathlib.Core.List.{List, [], _∷_}
+use mathlib.Core.Bool.{Bool, true, cond, not, _&&_}
+use Prim.Native.Nat.{ℕ, _+_, _<_}
+use lib.Dec.{eqb}
+use Rattle.lists.specs.Entries.{firsts}
+use Rattle.station.specs.Fit.{lastTick}
+use Rattle.station.specs.declared.Station.{Station}
+use Rattle.election.specs.Sound.{sound}
+use Rattle.election.specs.Tick.{settled, tick}
+use Rattle.election.specs.declared.Link.{Link}
+use Rattle.election.specs.declared.Message.{Message}
+use Rattle.election.specs.declared.System.{System}
+
+-- a sound system that is set up, before its last tick
+pub record Ticking (s : System) : Type 0 where
+  pub is-sound : sound s ≡ true
+  pub is-ready : s .ready ≡ true
+  pub room : s .tick < lastTick
+
+-- all stations after (a) and (b)
+abbrev pub settledAll : System → List Station
+settledAll s = firsts (s .n) (λ k. settled s (k + 1)) (s .stations)
+
+-- a message that is due a delay from now; none if nothing is sent, or the link is cut
+abbrev pub sentOver : ℕ → Bool → ℕ → List ℕ → List Message
+sentOver now sends delay counts = cond (sends && not (eqb delay 0)) (record { sent = now; due = now + delay; counts = counts } ∷ []) []
+
+-- a station that has settled sends LEADER
+abbrev pub sendsNow : ℕ → ℕ → Station → Bool
+sendsNow me now x = x .up && eqb (x .slot) now && eqb (x .leader) me
+
+-- the fields of the system after a tick
+abbrev pub linksAfter : System → List Link
+linksAfter s = tick s .links
+
+abbrev pub stationsAfter : System → List Station
+stationsAfter s = tick s .stations
+
+abbrev pub sentAfter : System → List ℕ
+sentAfter s = tick s .sent
