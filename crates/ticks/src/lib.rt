@@ -1,2 +1,2 @@
-// One tick of a sound system, and a run of ticks: rules for the crates above, which test soundness first.
+// One tick of a sound system: a rule for the crates above, which test soundness first.
 pub mod rules;

@@ -33,7 +33,7 @@ fn heard_message(me: u8, q: u8, now: u32, m: Message, x: Station) -> Station
 }
 
 // The station after the messages of a link from q that are due now, oldest first.
-pub fn heard_link(me: u8, q: u8, now: u32, l: Link, x: Station) -> Station
+fn heard_link(me: u8, q: u8, now: u32, l: Link, x: Station) -> Station
     requires { ⌜ (l .used ≤ 4) × (now ≤ lastTick) × (entry (x .timeouts) q ≤ longest lastTick) ⌝ }
     ensures { λ r. ⌜ r ≡ heardLink me q now (messages l) x ⌝ }
 {
@@ -58,7 +58,7 @@ fn expired_now(me: u8, now: u32, x: Station) -> Station
 }
 
 // The station after its send chance, if it is due now.
-pub fn slotted_now(period: u32, now: u32, x: Station) -> Station
+fn slotted_now(period: u32, now: u32, x: Station) -> Station
     requires { ⌜ (period ≤ 255) × (now ≤ lastTick) ⌝ }
     ensures { λ r. ⌜ r ≡ slottedNow period now x ⌝ }
 {
@@ -69,7 +69,7 @@ pub fn slotted_now(period: u32, now: u32, x: Station) -> Station
 }
 
 // The station after (a) and (b): what it heard, and then its timer; a down one is left alone.
-pub fn settle(me: u8, now: u32, old: Station, x: Station) -> Station
+fn settle(me: u8, now: u32, old: Station, x: Station) -> Station
     requires { ⌜ (old .up ≡ true → x .timer ≡ now → (1 ≤ x .leader) × (x .leader ≤ 8) × (entry (x .timeouts) (x .leader) ≤ longest lastTick)) ⌝ }
     ensures { λ r. ⌜ r ≡ cond (old .up) (expiredNow me now x) old ⌝ }
 {
@@ -128,7 +128,7 @@ fn with_message(l: Link, m: Message) -> Link
 }
 
 // The link after a tick: what is not due now, and the new message, unless the link is cut.
-pub fn link_after(now: u32, sends: bool, delay: u8, counts: [u16; 8], l: Link) -> Link
+fn link_after(now: u32, sends: bool, delay: u8, counts: [u16; 8], l: Link) -> Link
     requires { ⌜ (l .used ≤ 4) × (now ≤ lastTick) × (length (later now (messages l) ++ sentOver now sends delay counts) ≤ 4) ⌝ }
     ensures { λ r. ⌜ r ≡ holding (later now (messages l) ++ sentOver now sends delay counts) ⌝ }
 {

@@ -1,0 +1,5 @@
+-- The pieces of a listing make the listing.
+pub mod Answers
+pub mod Digits
+pub mod Parts
+pub mod Same

@@ -1,0 +1,10 @@
+-- The function rules::trusts meets its contract.
+use borrow.Author.Needs.{needs}
+use Rattle.listing.proofs.rules.trusts.Tie as tie
+use Rattle.listing.proofs.rules.trusts.Statement.{statement}
+
+returns : tie.Need-returns
+returns c = rw (c .before .if1 .taken)
+
+pub trusts-spec : {M : Type 1} → statement M
+trusts-spec = tie.close (tie.spec returns (λ c. search needs))

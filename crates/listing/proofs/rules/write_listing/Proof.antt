@@ -1,0 +1,61 @@
+-- The function rules::write_listing meets its contract.
+use mathlib.Core.Path.{sym}
+use borrow.Author.Needs.{needs}
+use Rattle.listing.specs.Verdicts.{verdictLine}
+use Rattle.listing.specs.Pieces.{lines}
+use Rattle.listing.proofs.Parts.{wrote-part, room-at, room-part, ends-in, room-two}
+use Rattle.listing.proofs.Same.{room, listing-is, room-tick}
+use Rattle.listing.proofs.rules.write_listing.Tie as tie
+use Rattle.listing.proofs.rules.write_listing.Statement.{statement}
+
+put-last-requires : tie.Need-put-last-requires
+put-last-requires c κs = let start = c .before .before .before .before .before .before .before .before in room-tick (start .args .s) (start .pre .1)
+
+sub-put-lines : tie.Need-sub-put-lines
+sub-put-lines c = let start = c .before .before .before .before .before .before .before .before .before .before .before in room-at (lines (start .args .s .n) (start .args .s .stations) (start .args .s .sent)) (c .before .before .put-last .ensures) (room-two _ (verdictLine (c .before .before .before .before .before .before .verdict .result)) (c .before .before .put-last .ensures) (room (start .args .s) (c .before .before .before .before .before .before .verdict .result) (c .before .before .before .before .before .before .verdict .ensures) (start .pre .1)))
+
+part-put-lines-start : tie.Need-part-put-lines-start
+part-put-lines-start c = sub-put-lines c
+
+put-lines-requires : tie.Need-put-lines-requires
+put-lines-requires c κs = let start = c .before .before .before .before .before .before .before .before .before .before .before .before in (search needs, room-part (lines (start .args .s .n) (start .args .s .stations) (start .args .s .sent)) (c .before .before .before .put-last .ensures) (room-two _ (verdictLine (c .before .before .before .before .before .before .before .verdict .result)) (c .before .before .before .put-last .ensures) (room (start .args .s) (c .before .before .before .before .before .before .before .verdict .result) (c .before .before .before .before .before .before .before .verdict .ensures) (start .pre .1))))
+
+add-b : tie.Need-add-b
+add-b c = let start = c .before .before .before .before .before .before .before .before .before .before .before .before .before .before .before in record { fits = ends-in (wrote-part (c .before .before .before .before .before .before .put-last .ensures) (c .before .before .put-lines .ensures)) (room-two _ (verdictLine (c .before .before .before .before .before .before .before .before .before .before .verdict .result)) (c .before .before .before .before .before .before .put-last .ensures) (room (start .args .s) (c .before .before .before .before .before .before .before .before .before .before .verdict .result) (c .before .before .before .before .before .before .before .before .before .before .verdict .ensures) (start .pre .1))) (start .good .1 .0 .0) }
+
+sub-put-verdict : tie.Need-sub-put-verdict
+sub-put-verdict c = let start = c .before .before .before .before .before .before .before .before .before .before .before .before .before .before .before in room-at (verdictLine (c .before .before .before .before .before .before .before .before .before .before .verdict .result)) (wrote-part (c .before .before .before .before .before .before .put-last .ensures) (c .before .before .put-lines .ensures)) (room (start .args .s) (c .before .before .before .before .before .before .before .before .before .before .verdict .result) (c .before .before .before .before .before .before .before .before .before .before .verdict .ensures) (start .pre .1))
+
+part-put-verdict-start : tie.Need-part-put-verdict-start
+part-put-verdict-start c = sub-put-verdict c
+
+put-verdict-requires : tie.Need-put-verdict-requires
+put-verdict-requires c κs = let start = c .before .before .before .before .before .before .before .before .before .before .before .before .before .before .before .before in room-part (verdictLine (c .before .before .before .before .before .before .before .before .before .before .before .verdict .result)) (wrote-part (c .before .before .before .before .before .before .before .put-last .ensures) (c .before .before .before .put-lines .ensures)) (room (start .args .s) (c .before .before .before .before .before .before .before .before .before .before .before .verdict .result) (c .before .before .before .before .before .before .before .before .before .before .before .verdict .ensures) (start .pre .1))
+
+add-result : tie.Need-add-result
+add-result c = let start = c .before .before .before .before .before .before .before .before .before .before .before .before .before .before .before .before .before .before .before in record { fits = ends-in (wrote-part (wrote-part (c .before .before .before .before .before .before .before .before .before .before .put-last .ensures) (c .before .before .before .before .before .before .put-lines .ensures)) (c .before .before .put-verdict .ensures)) (room (start .args .s) (c .before .before .before .before .before .before .before .before .before .before .before .before .before .before .verdict .result) (c .before .before .before .before .before .before .before .before .before .before .before .before .before .before .verdict .ensures) (start .pre .1)) (start .good .1 .0 .0) }
+
+returns : tie.Need-returns
+returns c = rw (sym (listing-is (c .before .before .before .before .before .before .before .before .before .before .before .before .before .before .before .before .before .before .before .args .s) (c .before .before .before .before .before .before .before .before .before .before .before .before .before .before .verdict .result) (c .before .before .before .before .before .before .before .before .before .before .before .before .before .before .verdict .ensures))) (wrote-part (wrote-part (c .before .before .before .before .before .before .before .before .before .before .put-last .ensures) (c .before .before .before .before .before .before .put-lines .ensures)) (c .before .before .put-verdict .ensures))
+
+pub write-listing-spec : {M : Type 1} → statement M
+write-listing-spec =
+    tie.close
+    (tie.spec
+    (λ c. search needs)
+    (λ c κs. search needs)
+    (λ c. search needs)
+    (λ c. search needs)
+    put-last-requires
+    sub-put-lines
+    part-put-lines-start
+    (λ c. search needs)
+    put-lines-requires
+    add-b
+    sub-put-verdict
+    part-put-verdict-start
+    (λ c. search needs)
+    put-verdict-requires
+    add-result
+    (λ c. search needs)
+    returns)

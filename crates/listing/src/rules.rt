@@ -1,0 +1,227 @@
+// What stands in a listing, and its pieces written.
+ghost use mathlib.Core.Path.{_≡_};
+ghost use Prim.Native.Nat.{_+_, _≤_};
+ghost use lib.ListN.{length};
+ghost use mathlib.Core.Bool.{cond};
+ghost use Rattle.election.specs.Listing.{upWord, downWord, listing};
+ghost use Rattle.listing.specs.Pieces.{countOf, counts, status, leaderOf, recOf, who, known, ends, line, lines};
+ghost use Rattle.listing.specs.Verdicts.{allDown, trusts, allTrust, leaderAfter, lastLeader, verdictOf, verdictLine};
+ghost use Rattle.listing.specs.Wrote.{Wrote};
+use crate::Verdict;
+use crate::text::put;
+use crate::text::put_decimal;
+use crate::text::put_last;
+use crate::text::put_named;
+use election::System;
+use station::Station;
+
+// Writes the count at k, after a comma unless it is the first.
+fn put_count(k: usize, x: u16, buffer: &mut [u8]) -> usize
+    requires { ⌜ length (countOf k x) ≤ length (now buffer) ⌝ }
+    ensures { λ r. ⌜ Wrote (countOf k x) (now (buffer .entry)) r (now (buffer .exit)) ⌝ }
+{
+    if k == 0 {
+        return put_decimal(x as u64, buffer);
+    }
+    put_named(b",", x as u64, buffer)
+}
+
+// Writes the first n counts.
+fn put_counts(n: usize, v: [u16; 8], buffer: &mut [u8]) -> usize
+    requires { ⌜ (n ≤ 8) × (length (counts n v) ≤ length (now buffer)) ⌝ }
+    ensures { λ r. ⌜ Wrote (counts n v) (now (buffer .entry)) r (now (buffer .exit)) ⌝ }
+{
+    let mut at = 0;
+    for k in 0..n {
+        at += put_count(k, v[k], &mut buffer[at..]);
+    }
+    at
+}
+
+// Writes whether a station is up.
+fn put_up(up: bool, buffer: &mut [u8]) -> usize
+    requires { ⌜ length (cond up upWord downWord) ≤ length (now buffer) ⌝ }
+    ensures { λ r. ⌜ Wrote (cond up upWord downWord) (now (buffer .entry)) r (now (buffer .exit)) ⌝ }
+{
+    if up {
+        return put(b" up", buffer);
+    }
+    put(b" down", buffer)
+}
+
+// Writes a station's number and status.
+fn put_status(p: u8, up: bool, buffer: &mut [u8]) -> usize
+    requires { ⌜ length (status p up) ≤ length (now buffer) ⌝ }
+    ensures { λ r. ⌜ Wrote (status p up) (now (buffer .entry)) r (now (buffer .exit)) ⌝ }
+{
+    let at = put_decimal(p as u64, buffer);
+    at + put_up(up, &mut buffer[at..])
+}
+
+// Writes a station's leader.
+fn put_leader(up: bool, l: u8, buffer: &mut [u8]) -> usize
+    requires { ⌜ length (leaderOf up l) ≤ length (now buffer) ⌝ }
+    ensures { λ r. ⌜ Wrote (leaderOf up l) (now (buffer .entry)) r (now (buffer .exit)) ⌝ }
+{
+    if up {
+        return put_named(b" leader ", l as u64, buffer);
+    }
+    put(b" leader -", buffer)
+}
+
+// Writes a station's vector.
+fn put_rec(n: usize, up: bool, v: [u16; 8], buffer: &mut [u8]) -> usize
+    requires { ⌜ (n ≤ 8) × (length (recOf n up v) ≤ length (now buffer)) ⌝ }
+    ensures { λ r. ⌜ Wrote (recOf n up v) (now (buffer .entry)) r (now (buffer .exit)) ⌝ }
+{
+    if !up {
+        return put(b" rec -", buffer);
+    }
+    let at = put(b" rec ", buffer);
+    at + put_counts(n, v, &mut buffer[at..])
+}
+
+// Writes who a station is: number, status and leader.
+fn put_who(p: u8, x: Station, buffer: &mut [u8]) -> usize
+    requires { ⌜ length (who p x) ≤ length (now buffer) ⌝ }
+    ensures { λ r. ⌜ Wrote (who p x) (now (buffer .entry)) r (now (buffer .exit)) ⌝ }
+{
+    let at = put_status(p, x.up, buffer);
+    at + put_leader(x.up, x.leader, &mut buffer[at..])
+}
+
+// Writes what a station knows: its count and its vector.
+fn put_known(n: usize, x: Station, buffer: &mut [u8]) -> usize
+    requires { ⌜ (n ≤ 8) × (length (known n x) ≤ length (now buffer)) ⌝ }
+    ensures { λ r. ⌜ Wrote (known n x) (now (buffer .entry)) r (now (buffer .exit)) ⌝ }
+{
+    let v = x.recovered;
+    let at = put_named(b" inc ", x.incarnation as u64, buffer);
+    at + put_rec(n, x.up, v, &mut buffer[at..])
+}
+
+// Writes how many messages a station has sent, the leader that it keeps, and the end of the line.
+fn put_ends(sent: u32, x: Station, buffer: &mut [u8]) -> usize
+    requires { ⌜ length (ends sent x) ≤ length (now buffer) ⌝ }
+    ensures { λ r. ⌜ Wrote (ends sent x) (now (buffer .entry)) r (now (buffer .exit)) ⌝ }
+{
+    let at = put_named(b" sent ", sent as u64, buffer);
+    at + put_last(b" kept ", x.stable as u64, &mut buffer[at..])
+}
+
+// Writes the line of station p.
+fn put_line(n: usize, p: u8, x: Station, sent: u32, buffer: &mut [u8]) -> usize
+    requires { ⌜ (n ≤ 8) × (length (line n p x sent) ≤ length (now buffer)) ⌝ }
+    ensures { λ r. ⌜ Wrote (line n p x sent) (now (buffer .entry)) r (now (buffer .exit)) ⌝ }
+{
+    let a = put_who(p, x, buffer);
+    let b = a + put_known(n, x, &mut buffer[a..]);
+    b + put_ends(sent, x, &mut buffer[b..])
+}
+
+// Writes the lines of the first n stations.
+fn put_lines(n: usize, stations: [Station; 8], sent: [u32; 8], buffer: &mut [u8]) -> usize
+    requires { ⌜ (n ≤ 8) × (length (lines n stations sent) ≤ length (now buffer)) ⌝ }
+    ensures { λ r. ⌜ Wrote (lines n stations sent) (now (buffer .entry)) r (now (buffer .exit)) ⌝ }
+{
+    let mut at = 0;
+    for k in 0..n {
+        let p = k as u8 + 1;
+        at += put_line(n, p, stations[k], sent[k], &mut buffer[at..]);
+    }
+    at
+}
+
+// Whether none of the first n stations is up.
+fn all_down(n: usize, stations: [Station; 8]) -> bool
+    requires { ⌜ n ≤ 8 ⌝ }
+    ensures { λ r. ⌜ r ≡ allDown n stations ⌝ }
+{
+    for k in 0..n {
+        let x = stations[k];
+        if x.up {
+            return false;
+        }
+    }
+    true
+}
+
+// Whether a station trusts l, if it is up.
+fn trusts(x: Station, l: u8) -> bool
+    ensures { λ r. ⌜ r ≡ trusts l x ⌝ }
+{
+    if x.up { x.leader == l } else { true }
+}
+
+// Whether all up stations among the first n trust l.
+fn all_trust(n: usize, stations: [Station; 8], l: u8) -> bool
+    requires { ⌜ n ≤ 8 ⌝ }
+    ensures { λ r. ⌜ r ≡ allTrust n stations l ⌝ }
+{
+    for k in 0..n {
+        if !trusts(stations[k], l) {
+            return false;
+        }
+    }
+    true
+}
+
+// The leader of a station that is up, or the one before it.
+fn leader_after(x: Station, l: u8) -> u8
+    ensures { λ r. ⌜ r ≡ leaderAfter x l ⌝ }
+{
+    if x.up { x.leader } else { l }
+}
+
+// The leader of the last up station among the first n, 0 if none is up.
+fn last_leader(n: usize, stations: [Station; 8]) -> u8
+    requires { ⌜ n ≤ 8 ⌝ }
+    ensures { λ r. ⌜ r ≡ lastLeader n stations ⌝ }
+{
+    let mut l = 0;
+    for k in 0..n {
+        l = leader_after(stations[k], l);
+    }
+    l
+}
+
+// The verdict on the first n stations.
+pub fn verdict(n: usize, stations: [Station; 8]) -> Verdict
+    requires { ⌜ n ≤ 8 ⌝ }
+    ensures { λ r. ⌜ r ≡ verdictOf n stations ⌝ }
+{
+    if all_down(n, stations) {
+        return Verdict::Dark;
+    }
+    let l = last_leader(n, stations);
+    if all_trust(n, stations, l) {
+        return Verdict::Agreed(l);
+    }
+    Verdict::Split
+}
+
+// Writes the verdict.
+fn put_verdict(v: Verdict, buffer: &mut [u8]) -> usize
+    requires { ⌜ length (verdictLine v) ≤ length (now buffer) ⌝ }
+    ensures { λ r. ⌜ Wrote (verdictLine v) (now (buffer .entry)) r (now (buffer .exit)) ⌝ }
+{
+    match v {
+        Verdict::Dark => put(b"dark\n", buffer),
+        Verdict::Agreed(l) => put_last(b"agreed ", l as u64, buffer),
+        Verdict::Split => put(b"split\n", buffer),
+    }
+}
+
+// Writes the listing of a system at the front of a buffer that has room for it.
+pub fn write_listing(s: System, buffer: &mut [u8]) -> usize
+    requires { ⌜ (s .n ≤ 8) × (length (listing s) ≤ length (now buffer)) ⌝ }
+    ensures { λ r. ⌜ Wrote (listing s) (now (buffer .entry)) r (now (buffer .exit)) ⌝ }
+{
+    let n = s.n as usize;
+    let stations = s.stations;
+    let sent = s.sent;
+    let v = verdict(n, stations);
+    let a = put_last(b"tick ", s.tick as u64, buffer);
+    let b = a + put_lines(n, stations, sent, &mut buffer[a..]);
+    b + put_verdict(v, &mut buffer[b..])
+}

@@ -1,0 +1,105 @@
+// The lengths of a listing's pieces, counted before anything is written.
+ghost use mathlib.Core.Path.{_≡_};
+ghost use Prim.Native.Nat.{_*_, _+_, _≤_};
+ghost use lib.ListN.{length};
+ghost use Rattle.listing.specs.Pieces.{countOf, counts, who, known, line, lines};
+ghost use Rattle.listing.specs.Verdicts.{verdictLine};
+ghost use Rattle.election.specs.Listing.{listing};
+use crate::Verdict;
+use crate::rules::verdict;
+use crate::text::decimal_size;
+use election::System;
+use station::Station;
+
+// The length of the count at k.
+fn count_size(k: usize, x: u16) -> usize
+    ensures { λ r. ⌜ (r ≡ length (countOf k x)) × (r ≤ 21) ⌝ }
+{
+    if k == 0 {
+        decimal_size(x as u64)
+    } else {
+        decimal_size(x as u64) + 1
+    }
+}
+
+// The length of the first n counts.
+fn counts_size(n: usize, v: [u16; 8]) -> usize
+    requires { ⌜ n ≤ 8 ⌝ }
+    ensures { λ r. ⌜ (r ≡ length (counts n v)) × (r ≤ 168) ⌝ }
+{
+    let mut size = 0;
+    for k in 0..n {
+        size += count_size(k, v[k]);
+    }
+    size
+}
+
+// The length of who a station is: number, status and leader.
+fn who_size(p: u8, x: Station) -> usize
+    ensures { λ r. ⌜ (r ≡ length (who p x)) × (r ≤ 60) ⌝ }
+{
+    if x.up {
+        decimal_size(p as u64) + decimal_size(x.leader as u64) + 11
+    } else {
+        decimal_size(p as u64) + 14
+    }
+}
+
+// The length of what a station knows: its count and its vector.
+fn known_size(n: usize, x: Station) -> usize
+    requires { ⌜ n ≤ 8 ⌝ }
+    ensures { λ r. ⌜ (r ≡ length (known n x)) × (r ≤ 200) ⌝ }
+{
+    let v = x.recovered;
+    if x.up {
+        decimal_size(x.incarnation as u64) + counts_size(n, v) + 10
+    } else {
+        decimal_size(x.incarnation as u64) + 11
+    }
+}
+
+// The length of the line of station p.
+fn line_size(n: usize, p: u8, x: Station, sent: u32) -> usize
+    requires { ⌜ n ≤ 8 ⌝ }
+    ensures { λ r. ⌜ (r ≡ length (line n p x sent)) × (r ≤ 320) ⌝ }
+{
+    let numbers = decimal_size(sent as u64) + decimal_size(x.stable as u64);
+    who_size(p, x) + known_size(n, x) + numbers + 13
+}
+
+// The length of the lines of the first n stations.
+fn lines_size(n: usize, stations: [Station; 8], sent: [u32; 8]) -> usize
+    requires { ⌜ n ≤ 8 ⌝ }
+    ensures { λ r. ⌜ (r ≡ length (lines n stations sent)) × (r ≤ 2560) ⌝ }
+{
+    let mut size = 0;
+    for k in 0..n {
+        let p = k as u8 + 1;
+        size += line_size(n, p, stations[k], sent[k]);
+    }
+    size
+}
+
+// The length of a verdict's line.
+fn verdict_size(v: Verdict) -> usize
+    ensures { λ r. ⌜ (r ≡ length (verdictLine v)) × (r ≤ 28) ⌝ }
+{
+    match v {
+        Verdict::Dark => 5,
+        Verdict::Agreed(l) => decimal_size(l as u64) + 8,
+        Verdict::Split => 6,
+    }
+}
+
+// The length of the listing of a system.
+pub(crate) fn listing_size(s: System) -> usize
+    requires { ⌜ s .n ≤ 8 ⌝ }
+    ensures { λ r. ⌜ r ≡ length (listing s) ⌝ }
+{
+    let n = s.n as usize;
+    let stations = s.stations;
+    let sent = s.sent;
+    let tick = decimal_size(s.tick as u64);
+    let v = verdict(n, stations);
+    tick + lines_size(n, stations, sent) + verdict_size(v) + 6
+}

@@ -1,0 +1,59 @@
+// Words and decimal numbers, written at the front of a buffer. The buffer has room: the caller has counted.
+ghost use mathlib.Core.Path.{_≡_};
+ghost use mathlib.Core.List.{_++_};
+ghost use Prim.Native.Nat.{_≤_};
+ghost use lib.ListN.{length};
+ghost use Rattle.election.specs.Listing.{decimal, newline};
+ghost use Rattle.listing.specs.Wrote.{Wrote};
+
+// Writes a word.
+pub(crate) fn put(word: &[u8], buffer: &mut [u8]) -> usize
+    requires { ⌜ length (now word) ≤ length (now buffer) ⌝ }
+    ensures { λ r. ⌜ Wrote (now (word .entry)) (now (buffer .entry)) r (now (buffer .exit)) ⌝ }
+{
+    let mut i = 0;
+    while i < word.len() {
+        buffer[i] = word[i];
+        i += 1;
+    }
+    i
+}
+
+// The length of a number in decimal digits.
+pub(crate) fn decimal_size(x: u64) -> usize
+    ensures { λ r. ⌜ (r ≡ length (decimal x)) × (r ≤ 20) ⌝ }
+{
+    if x < 10 { 1 } else { decimal_size(x / 10) + 1 }
+}
+
+// Writes a number in decimal digits.
+pub(crate) fn put_decimal(x: u64, buffer: &mut [u8]) -> usize
+    requires { ⌜ length (decimal x) ≤ length (now buffer) ⌝ }
+    ensures { λ r. ⌜ Wrote (decimal x) (now (buffer .entry)) r (now (buffer .exit)) ⌝ }
+{
+    if x < 10 {
+        buffer[0] = b'0' + x as u8;
+        return 1;
+    }
+    let at = put_decimal(x / 10, buffer);
+    buffer[at] = b'0' + (x % 10) as u8;
+    at + 1
+}
+
+// Writes a word and a number after it.
+pub(crate) fn put_named(word: &[u8], x: u64, buffer: &mut [u8]) -> usize
+    requires { ⌜ length (now word ++ decimal x) ≤ length (now buffer) ⌝ }
+    ensures { λ r. ⌜ Wrote (now (word .entry) ++ decimal x) (now (buffer .entry)) r (now (buffer .exit)) ⌝ }
+{
+    let at = put(word, buffer);
+    at + put_decimal(x, &mut buffer[at..])
+}
+
+// Writes a word, a number and the end of the line.
+pub(crate) fn put_last(word: &[u8], x: u64, buffer: &mut [u8]) -> usize
+    requires { ⌜ length (now word ++ decimal x ++ newline) ≤ length (now buffer) ⌝ }
+    ensures { λ r. ⌜ Wrote (now (word .entry) ++ decimal x ++ newline) (now (buffer .entry)) r (now (buffer .exit)) ⌝ }
+{
+    let at = put_named(word, x, buffer);
+    at + put(b"\n", &mut buffer[at..])
+}
