@@ -1,2 +1,2 @@
-// One tick of a sound system: a rule for the crates above, which test soundness first.
+// Runs of a sound system: rules for the crates above, which test soundness first.
 pub mod rules;

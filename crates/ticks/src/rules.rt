@@ -10,7 +10,8 @@ ghost use Rattle.station.specs.Order.{entry};
 ghost use Rattle.station.specs.Fit.{lastTick, longest};
 ghost use Rattle.station.specs.Rules.{heard};
 ghost use Rattle.election.specs.System.{messages, holding};
-ghost use Rattle.election.specs.Tick.{heardLink, expiredNow, slottedNow, later, tick};
+ghost use Rattle.election.specs.Sound.{sound};
+ghost use Rattle.election.specs.Tick.{heardLink, expiredNow, slottedNow, later, tick, ticks};
 ghost use Rattle.ticks.specs.Sending.{Ticking, settledAll, sentOver, sendsNow, linksAfter, stationsAfter, sentAfter};
 use election::Link;
 use election::Message;
@@ -274,4 +275,16 @@ pub fn tick(s: System) -> System
         delays,
         links,
     }
+}
+
+// The system after t ticks.
+pub fn run(t: u32, s: System) -> System
+    requires { ⌜ (sound s ≡ true) × (s .ready ≡ true) × (s .tick + t ≤ lastTick) ⌝ }
+    ensures { λ r. ⌜ r ≡ ticks t s ⌝ }
+{
+    let mut r = s;
+    for k in 0..t {
+        r = tick(r);
+    }
+    r
 }

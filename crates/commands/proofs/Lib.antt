@@ -1,0 +1,2 @@
+-- What accepted commands leave.
+pub mod Initial
