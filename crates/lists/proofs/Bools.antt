@@ -40,3 +40,10 @@ holds e h = sym e ∙ not-false _ h
 
 pub fails : {result test : Bool} → result ≡ test → not result ≡ true → test ≡ false
 fails e h = sym e ∙ not-true _ h
+
+-- a choice whose test is known
+pub cond-yes : {A : Type 0} {b : Bool} (x y : A) → b ≡ true → cond b x y ≡ x
+cond-yes x y e = rw e
+
+pub cond-no : {A : Type 0} {b : Bool} (x y : A) → b ≡ false → cond b x y ≡ y
+cond-no x y e = rw e

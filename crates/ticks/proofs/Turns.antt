@@ -1,15 +1,17 @@
 -- Turns of the loops over a link's messages.
 use mathlib.Core.Path.{_≡_, refl, sym, ap, _∙_}
-use mathlib.Core.List.{List, [], _∷_, _++_, append-nil}
-use mathlib.Core.Bool.{Bool, true, false, cond}
-use Prim.Native.Nat.{ℕ, _+_, _<_, _≤_}
+use mathlib.Core.List.{List, [], _∷_, _++_}
+use mathlib.Core.Bool.{Bool, true, false, cond, not}
+use Prim.Native.Nat.{ℕ, zero, suc, _+_, _<_, _≤_}
 use native.Mathlib.Numerals.{add-one}
 use native.Mathlib.Omega.{arith}
 use lib.Dec.{eqb}
 use lib.ListN.{length, getD, take, set, replicate, length-append}
 use borrow.Author.Tests.{eq-eqb, ne-eqb}
 use Rattle.lists.specs.Entries.{over}
-use Rattle.lists.proofs.Entries.{over-nil, over-snoc}
+use Rattle.lists.specs.Filter.{whereTo}
+use Rattle.lists.proofs.Entries.{over-snoc}
+use Rattle.lists.proofs.Filter.{Kept}
 use lib.Seq.{take-suc}
 use Rattle.station.specs.Rules.{heard}
 use Rattle.station.specs.declared.Station.{Station}
@@ -18,12 +20,6 @@ use Rattle.election.specs.System.{noMessage, unused, messages, holding}
 use Rattle.election.specs.Tick.{heardLink, later}
 use Rattle.election.specs.declared.Link.{Link}
 use Rattle.election.specs.declared.Message.{Message}
-
-pub cond-yes : {A : Type 0} {b : Bool} (x y : A) → b ≡ true → cond b x y ≡ x
-cond-yes x y e = rw e
-
-pub cond-no : {A : Type 0} {b : Bool} (x y : A) → b ≡ false → cond b x y ≡ y
-cond-no x y e = rw e
 
 -- one message more is heard
 heardLink-snoc : (me q now : ℕ) (ms : List Message) (m : Message) (x : Station) → heardLink me q now (ms ++ (m ∷ [])) x ≡ cond (eqb (m .due) now) (heard me q (m .counts) now (heardLink me q now ms x)) (heardLink me q now ms x)
@@ -62,44 +58,36 @@ later-snoc now (a ∷ ms) m = go (eqb (a .due) now) (later-snoc now ms m)
     go true e = e
     go false e = ap (λ l. a ∷ l) e
 
-module _ (now : ℕ) (ms : List Message) (k : ℕ) (h : k < length ms) where
-  step : take (k + 1) ms ≡ take k ms ++ (getD ms k noMessage ∷ [])
-  step = ap (λ n. take n ms) (add-one k) ∙ take-suc ms k noMessage h
+-- what is not due now are the entries at which a test holds
+abbrev pub staying : ℕ → List Message → ℕ → Bool
+staying now ms i = not (eqb (getD ms i noMessage .due) now)
 
-  pub later-keeps : eqb (getD ms k noMessage .due) now ≡ false → later now (take (k + 1) ms) ≡ later now (take k ms) ++ (getD ms k noMessage ∷ [])
-  later-keeps e = ap (later now) step ∙ later-snoc now (take k ms) (getD ms k noMessage) ∙ rw e
+abbrev pub entryOf : List Message → ℕ → Message
+entryOf ms i = getD ms i noMessage
 
-  pub later-drops : eqb (getD ms k noMessage .due) now ≡ true → later now (take (k + 1) ms) ≡ later now (take k ms)
-  later-drops e = ap (later now) step ∙ later-snoc now (take k ms) (getD ms k noMessage) ∙ rw e (append-nil (later now (take k ms)))
+later-where : (now : ℕ) (ms : List Message) (k : ℕ) → k ≤ length ms → later now (take k ms) ≡ whereTo k (staying now ms) (entryOf ms)
+unfolding later whereTo
+later-where now ms zero h = refl
+later-where now ms (suc k) h =
+    ap (later now) (take-suc ms k noMessage (omega arith)) ∙ later-snoc now (take k ms) (getD ms k noMessage)
+    ∙ rw (later-where now ms k (omega arith)) (go (eqb (getD ms k noMessage .due) now))
+  where
+    go : (b : Bool) → whereTo k (staying now ms) (entryOf ms) ++ cond b [] (getD ms k noMessage ∷ []) ≡ whereTo k (staying now ms) (entryOf ms) ++ cond (not b) (getD ms k noMessage ∷ []) []
+    go true = refl
+    go false = refl
 
--- a loop that keeps what is not due now: below k it has kept `to` messages, and out has them over the front of old
-pub record Sifted (now : ℕ) (ms old : List Message) (k to : ℕ) (out : List Message) : Type 0 where
-  pub count : to ≡ length (later now (take k ms))
-  pub list : out ≡ over (later now (take k ms)) old
+-- the test at a message
+pub stays : (now : ℕ) (m : Message) → (m .due ≡ now → ⊥) → not (eqb (m .due) now) ≡ true
+stays now m ne = rw (ne-eqb (m .due) now ne)
 
-pub sifted-none : (now : ℕ) (ms old : List Message) → Sifted now ms old 0 0 old
-unfolding later
-sifted-none now ms old = record { count = refl; list = over-nil old }
+pub goes : (now : ℕ) (m : Message) → m .due ≡ now → not (eqb (m .due) now) ≡ false
+goes now m e = rw (eq-eqb (m .due) now e)
 
-pub sifted-takes : {now : ℕ} {ms old : List Message} {k to to′ : ℕ} {out out′ : List Message} {m : Message} → Sifted now ms old k to out → k < length ms → to < length old
-    → m ≡ getD ms k noMessage → (m .due ≡ now → ⊥) → out′ ≡ set out to m → to′ ≡ to + 1 → Sifted now ms old (k + 1) to′ out′
-sifted-takes {now} {ms} {old} {k} {to} {out = out} {m = m} s h room g ne q p =
-    let e : eqb (getD ms k noMessage .due) now ≡ false = ne-eqb _ now (λ i. ne (ap (λ (z : Message). z .due) g ∙ i)) in
-    record {
-      count = p ∙ rw (later-keeps now ms k h e, length-append, s .count);
-      list = q ∙ rw (later-keeps now ms k h e, g) (over-snoc (later now (take k ms)) old out to (getD ms k noMessage) (s .count) room (s .list));
-    }
-
-pub sifted-leaves : {now : ℕ} {ms old : List Message} {k to to′ : ℕ} {out out′ : List Message} {m : Message} → Sifted now ms old k to out → k < length ms
-    → m ≡ getD ms k noMessage → m .due ≡ now → out′ ≡ out → to′ ≡ to → Sifted now ms old (k + 1) to′ out′
-sifted-leaves {now} {ms} {k = k} s h g d q p =
-    let e : eqb (getD ms k noMessage .due) now ≡ true = eq-eqb _ now (ap (λ (z : Message). z .due) (sym g) ∙ d) in
-    record { count = p ∙ rw (later-drops now ms k h e) (s .count); list = q ∙ rw (later-drops now ms k h e) (s .list) }
-
--- where it ends, the link holds what is not due now
-pub sifted-holds : (now : ℕ) (l : Link) (to : ℕ) (out : List Message) → Sifted now (l .messages) (replicate 4 unused) (l .used) to out → record { used = to; messages = out } ≡ holding (later now (messages l))
+-- where the loop ends, the link holds what is not due now
+pub kept-holds : (now : ℕ) (l : Link) (to : ℕ) (out : List Message) → l .used ≤ length (l .messages)
+    → Kept (l .used) (staying now (l .messages)) (entryOf (l .messages)) (replicate 4 unused) to out → record { used = to; messages = out } ≡ holding (later now (messages l))
 unfolding messages holding
-sifted-holds now l to out s = rw (s .count, s .list)
+kept-holds now l to out h k = rw (k .count, k .list, later-where now (l .messages) (l .used) h)
 
 -- a link that holds up to three messages takes one more
 module _ (ms : List Message) (m : Message) (room : length (ms ++ (m ∷ [])) ≤ 4) where

@@ -1,7 +1,7 @@
 -- The function rules::expired_now meets its contract.
 use mathlib.Core.Path.{sym, _∙_}
 use borrow.Author.Tests.{eq-eqb, ne-eqb}
-use Rattle.ticks.proofs.Turns.{cond-yes, cond-no}
+use Rattle.lists.proofs.Bools.{cond-yes, cond-no}
 use Rattle.election.specs.Tick.{expiredNow}
 use Rattle.ticks.proofs.rules.expired_now.Statement.{statement}
 use Rattle.ticks.proofs.rules.expired_now.Tie as tie

@@ -1,7 +1,7 @@
 -- The function rules::heard_message meets its contract.
 use mathlib.Core.Path.{sym, _∙_}
 use borrow.Author.Tests.{eq-eqb, ne-eqb}
-use Rattle.ticks.proofs.Turns.{cond-yes, cond-no}
+use Rattle.lists.proofs.Bools.{cond-yes, cond-no}
 use borrow.Author.Needs.{needs}
 use Rattle.ticks.proofs.rules.heard_message.Statement.{statement}
 use Rattle.ticks.proofs.rules.heard_message.Tie as tie

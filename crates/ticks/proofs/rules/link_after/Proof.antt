@@ -1,5 +1,6 @@
 -- The function rules::link_after meets its contract.
-use Rattle.ticks.proofs.Turns.{cond-yes, cond-no, holding-room, holding-more}
+use Rattle.lists.proofs.Bools.{cond-yes, cond-no}
+use Rattle.ticks.proofs.Turns.{holding-room, holding-more}
 use Rattle.ticks.specs.Sending.{sentOver}
 use Rattle.election.specs.declared.Message.{Message}
 use Rattle.election.specs.declared.Link.{Link}

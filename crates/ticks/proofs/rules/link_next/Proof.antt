@@ -1,6 +1,6 @@
 -- The function rules::link_next meets its contract.
 use borrow.Author.Tests.{eq-eqb, ne-eqb}
-use Rattle.ticks.proofs.Turns.{cond-yes, cond-no}
+use Rattle.lists.proofs.Bools.{cond-yes, cond-no}
 use mathlib.Core.Path.{sym, _∙_}
 use Rattle.ticks.proofs.rules.link_next.Statement.{statement}
 use Rattle.ticks.proofs.rules.link_next.Tie as tie

@@ -1,5 +1,5 @@
 -- The function rules::sent_next meets its contract.
-use Rattle.ticks.proofs.Turns.{cond-yes}
+use Rattle.lists.proofs.Bools.{cond-yes}
 use mathlib.Core.Path.{sym}
 use borrow.Author.Needs.{needs}
 use Rattle.ticks.proofs.rules.sent_next.Statement.{statement}

@@ -1,6 +1,6 @@
 -- The function rules::settle meets its contract.
 use mathlib.Core.Path.{sym, _∙_}
-use Rattle.ticks.proofs.Turns.{cond-yes, cond-no}
+use Rattle.lists.proofs.Bools.{cond-yes, cond-no}
 use Rattle.ticks.proofs.rules.settle.Statement.{statement}
 use Rattle.ticks.proofs.rules.settle.Tie as tie
 use Rattle.ticks.proofs.rules.settle.Reads as reads

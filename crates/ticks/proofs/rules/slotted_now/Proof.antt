@@ -1,7 +1,7 @@
 -- The function rules::slotted_now meets its contract.
 use mathlib.Core.Path.{sym, _∙_}
 use borrow.Author.Tests.{eq-eqb, ne-eqb}
-use Rattle.ticks.proofs.Turns.{cond-yes, cond-no}
+use Rattle.lists.proofs.Bools.{cond-yes, cond-no}
 use Rattle.election.specs.Tick.{slottedNow}
 use borrow.Author.Needs.{needs}
 use Rattle.ticks.proofs.rules.slotted_now.Statement.{statement}
