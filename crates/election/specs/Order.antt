@@ -80,7 +80,7 @@ afterTimers s = each (s .n) (λ k. timerEnds (next s) (k + 1)) (afterDeliveries 
 unfoldable pub afterChances : System → Desk
 afterChances s = each (s .n) (λ k. chance (s .n) (s .period) (next s) (k + 1)) (record { stations = afterTimers s; sent = s .sent })
 
--- the paper's order leaves the stations that a tick has, in every system
+-- the paper's order leaves the stations that a tick has, in every system of full tables, sound or not
 abbrev pub PaperOrder : Type 0
 PaperOrder = (s : System) → s .n ≤ 8 → length (s .stations) ≡ 8 → afterChances s .stations ≡ tick s .stations
 
