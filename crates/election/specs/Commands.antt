@@ -133,14 +133,17 @@ pub record Result : Type 0 where
   pub length : ℕ
   pub system : System
 
--- refused, the system comes back unchanged and the length is 0
-unfoldable pub command : System → List ℕ → Result
-command s bytes =
+-- the outcome of a command with its refusal; refused, the system comes back unchanged and the length is 0
+abbrev pub outcome : ℕ → Command → System → Result
+outcome refusal c s =
     record {
-      refusal = refusal s bytes;
-      length = cond (eqb (refusal s bytes) 0) (1 + operands (decode bytes)) 0;
-      system = cond (eqb (refusal s bytes) 0) (perform (decode bytes) s) s;
+      refusal = refusal;
+      length = cond (eqb refusal 0) (1 + operands c) 0;
+      system = cond (eqb refusal 0) (perform c s) s;
     }
+
+unfoldable pub command : System → List ℕ → Result
+command s bytes = outcome (refusal s bytes) (decode bytes) s
 
 -- document 01's number of a refusal
 abbrev pub numberOf : Refusal → ℕ

@@ -1,0 +1,335 @@
+// Plain C rehearsal of the scanner head election: a schedule on standard input, its listings on standard output.
+#include <stdbool.h>
+#include <stdint.h>
+#include <stdio.h>
+#include <string.h>
+
+enum { STATIONS = 8, PLACES = 4, MAX_INCARNATION = 4095, MAX_DELAY = 64, MAX_TICK = 1000000, MAX_SCHEDULE = 65536 };
+enum { SET_UP = 1, START, CRASH, LINK, RUN, LOSE, REPORT };
+
+static const uint8_t operands[] = { // bytes after each command
+    [SET_UP] = 2, [START] = 1, [CRASH] = 1, [LINK] = 3, [RUN] = 2, [LOSE] = 2, [REPORT] = 0,
+};
+
+// Stations are numbered from 1; place 0 of each array by station is unused.
+struct station {
+    uint32_t incarnation;             // kept through a crash
+    uint32_t stable;                  // the kept leader
+    uint32_t sent;                    // survives crashes too
+    bool up;
+    bool recovering;                  // until the first slot after a start
+    uint32_t leader;
+    uint32_t timer;                   // tick at which it ends, 0 if stopped
+    uint32_t slot;                    // tick of the next send chance
+    uint32_t timeout[STATIONS + 1];
+    uint16_t recovered[STATIONS + 1]; // known start counts
+};
+
+struct message {
+    uint32_t due;
+    uint16_t recovered[STATIONS + 1];
+};
+
+// Messages under way stand first, oldest sending first.
+struct link {
+    uint32_t delay; // 0 is a cut link
+    uint32_t count;
+    struct message message[PLACES];
+};
+
+static bool ready; // set up is done
+static uint32_t stations, period, tick;
+static struct station station[STATIONS + 1];
+static struct link links[STATIONS + 1][STATIONS + 1]; // by receiver, then sender
+static uint8_t schedule[MAX_SCHEDULE + 1];
+static char output[65536];
+
+// Station rules.
+
+static void start(uint32_t p) {
+    struct station *s = &station[p];
+    s->up = true;
+    s->recovering = true;
+    s->incarnation++;
+    s->leader = s->stable;
+    for (uint32_t q = 1; q <= stations; q++) {
+        s->timeout[q] = q == p ? 0 : period + s->incarnation;
+        s->recovered[q] = 0;
+    }
+    s->recovered[p] = (uint16_t)s->incarnation;
+    s->timer = s->leader == p ? 0 : tick + s->timeout[s->leader];
+    s->slot = tick + period + s->incarnation;
+}
+
+static void crash(uint32_t p) {
+    struct station *s = &station[p];
+    *s = (struct station){ .incarnation = s->incarnation, .stable = s->stable, .sent = s->sent };
+}
+
+// Candidates compare by known count, then number.
+static bool before(const struct station *s, uint32_t a, uint32_t b) {
+    if (s->recovered[a] != s->recovered[b])
+        return s->recovered[a] < s->recovered[b];
+    return a < b;
+}
+
+static void hear(uint32_t p, uint32_t q, const uint16_t *recovered) {
+    struct station *s = &station[p];
+    for (uint32_t r = 1; r <= stations; r++)
+        if (s->recovered[r] < recovered[r])
+            s->recovered[r] = recovered[r];
+    if (!before(s, s->leader, q)) {
+        s->leader = q;
+        s->timer = tick + s->timeout[q];
+    }
+    if (before(s, p, s->leader)) {
+        s->leader = p;
+        s->timer = 0;
+    }
+}
+
+static void timer_ends(uint32_t p) {
+    struct station *s = &station[p];
+    s->timeout[s->leader]++;
+    s->leader = p;
+    s->timer = 0;
+}
+
+// Answers whether the station sends.
+static bool send_chance(uint32_t p) {
+    struct station *s = &station[p];
+    if (s->recovering)
+        s->stable = s->leader;
+    s->recovering = false;
+    s->slot += period;
+    return s->leader == p;
+}
+
+// The desk.
+
+static void set_up(uint32_t n, uint32_t eta) {
+    ready = true;
+    stations = n;
+    period = eta;
+    for (uint32_t p = 1; p <= n; p++) {
+        station[p].stable = p;
+        for (uint32_t q = 1; q <= n; q++)
+            links[p][q].delay = p == q ? 0 : 1;
+    }
+}
+
+// Delivers the messages due now from q to p; the others close up in order.
+static void deliver(uint32_t p, uint32_t q) {
+    struct link *l = &links[p][q];
+    uint32_t left = 0;
+    for (uint32_t i = 0; i < l->count; i++) {
+        if (l->message[i].due != tick) {
+            if (left != i)
+                l->message[left] = l->message[i];
+            left++;
+        } else if (station[p].up) {
+            hear(p, q, l->message[i].recovered);
+        }
+    }
+    l->count = left;
+}
+
+static void send_leader(uint32_t p) {
+    for (uint32_t q = 1; q <= stations; q++) {
+        struct link *l = &links[q][p];
+        if (q == p || l->delay == 0)
+            continue;
+        struct message *m = &l->message[l->count++];
+        m->due = tick + l->delay;
+        memcpy(m->recovered, station[p].recovered, sizeof m->recovered);
+    }
+    station[p].sent += stations - 1;
+}
+
+// What is due at this tick, in the order of the rules.
+static void do_tick(void) {
+    for (uint32_t p = 1; p <= stations; p++)
+        for (uint32_t q = 1; q <= stations; q++)
+            if (links[p][q].count != 0)
+                deliver(p, q);
+    for (uint32_t p = 1; p <= stations; p++)
+        if (station[p].timer == tick)
+            timer_ends(p);
+    for (uint32_t p = 1; p <= stations; p++)
+        if (station[p].slot == tick && send_chance(p))
+            send_leader(p);
+}
+
+// The next tick at which something is due, or end if that comes first.
+static uint32_t next_due(uint32_t end) {
+    uint32_t next = end;
+    for (uint32_t p = 1; p <= stations; p++) {
+        const struct station *s = &station[p];
+        if (s->up && s->slot < next)
+            next = s->slot;
+        if (s->timer != 0 && s->timer < next)
+            next = s->timer;
+        for (uint32_t q = 1; q <= stations; q++) {
+            const struct link *l = &links[p][q];
+            for (uint32_t i = 0; i < l->count; i++)
+                if (l->message[i].due < next)
+                    next = l->message[i].due;
+        }
+    }
+    return next;
+}
+
+static void run(uint32_t ticks) {
+    uint32_t end = tick + ticks;
+    while (tick < end) {
+        tick = next_due(end);
+        do_tick();
+    }
+}
+
+// The listing.
+
+static char *put_text(char *at, const char *text) {
+    size_t length = strlen(text);
+    memcpy(at, text, length);
+    return at + length;
+}
+
+static char *put_number(char *at, uint32_t number) {
+    char digits[10];
+    int n = 0;
+    do {
+        digits[n++] = (char)('0' + number % 10);
+        number /= 10;
+    } while (number != 0);
+    while (n > 0)
+        *at++ = digits[--n];
+    return at;
+}
+
+static char *put_station(char *at, uint32_t p) {
+    const struct station *s = &station[p];
+    at = put_number(at, p);
+    if (s->up)
+        at = put_number(put_text(at, " up leader "), s->leader);
+    else
+        at = put_text(at, " down leader -");
+    at = put_number(put_text(at, " inc "), s->incarnation);
+    at = put_text(at, " rec ");
+    if (s->up) {
+        at = put_number(at, s->recovered[1]);
+        for (uint32_t q = 2; q <= stations; q++) {
+            *at++ = ',';
+            at = put_number(at, s->recovered[q]);
+        }
+    } else {
+        *at++ = '-';
+    }
+    at = put_number(put_text(at, " sent "), s->sent);
+    at = put_number(put_text(at, " kept "), s->stable);
+    *at++ = '\n';
+    return at;
+}
+
+static void report(void) {
+    char listing[1024]; // the longest takes less
+    char *at = put_number(put_text(listing, "tick "), tick);
+    uint32_t leader = 0;
+    bool split = false;
+    *at++ = '\n';
+    for (uint32_t p = 1; p <= stations; p++) {
+        at = put_station(at, p);
+        if (station[p].up) {
+            split = split || (leader != 0 && leader != station[p].leader);
+            leader = station[p].leader;
+        }
+    }
+    if (leader == 0)
+        at = put_text(at, "dark");
+    else if (split)
+        at = put_text(at, "split");
+    else
+        at = put_number(put_text(at, "agreed "), leader);
+    *at++ = '\n';
+    fwrite(listing, 1, (size_t)(at - listing), stdout);
+}
+
+// Commands and schedules.
+
+static bool is_station(uint32_t p) {
+    return 1 <= p && p <= stations;
+}
+
+// Does the first command of the bytes; answers 0, or the refusal with nothing changed.
+static int do_command(const uint8_t *bytes, size_t length) {
+    uint8_t command = bytes[0];
+    if (command < SET_UP || command > REPORT) return 1;
+    if (length < 1u + operands[command]) return 2;
+    if (!ready && command != SET_UP) return 3;
+    const uint8_t *operand = bytes + 1;
+    switch (command) {
+    case SET_UP:
+        if (ready) return 4;
+        if (operand[0] < 2 || operand[0] > STATIONS) return 5;
+        if (operand[1] < 16) return 6;
+        set_up(operand[0], operand[1]);
+        break;
+    case START:
+        if (!is_station(operand[0])) return 7;
+        if (station[operand[0]].up) return 8;
+        if (station[operand[0]].incarnation == MAX_INCARNATION) return 10;
+        start(operand[0]);
+        break;
+    case CRASH:
+        if (!is_station(operand[0])) return 7;
+        if (!station[operand[0]].up) return 9;
+        crash(operand[0]);
+        break;
+    case LINK:
+    case LOSE:
+        if (!is_station(operand[0]) || !is_station(operand[1])) return 7;
+        if (operand[0] == operand[1]) return 11;
+        if (command == LINK && operand[2] > MAX_DELAY) return 12;
+        if (command == LINK)
+            links[operand[1]][operand[0]].delay = operand[2];
+        else
+            links[operand[1]][operand[0]].count = 0;
+        break;
+    case RUN: {
+        uint32_t ticks = operand[0] + 256u * operand[1];
+        if (ticks == 0) return 13;
+        if (tick + ticks > MAX_TICK) return 14;
+        run(ticks);
+        break;
+    }
+    case REPORT:
+        report();
+        break;
+    }
+    return 0;
+}
+
+int main(void) {
+    setvbuf(stdin, NULL, _IONBF, 0); // so that no more is read than asked for
+    setvbuf(stdout, output, _IOFBF, sizeof output);
+    size_t length = fread(schedule, 1, sizeof schedule, stdin), at = 0;
+    if (ferror(stdin)) {
+        perror("standard input");
+        return 1;
+    }
+    int refusal = length > MAX_SCHEDULE ? 21 : 0;
+    while (refusal == 0 && at < length) {
+        refusal = do_command(schedule + at, length - at);
+        if (refusal == 0)
+            at += 1u + operands[schedule[at]];
+    }
+    if (refusal == 0)
+        printf("end %zu\n", at);
+    else
+        printf("refused %d at %zu\n", refusal, at);
+    if (fflush(stdout) != 0 || ferror(stdout)) {
+        perror("standard output");
+        return 1;
+    }
+    return 0;
+}

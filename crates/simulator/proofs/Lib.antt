@@ -1,0 +1,3 @@
+-- The commands, as the code decides them.
+pub mod Answers
+pub mod Bytes
