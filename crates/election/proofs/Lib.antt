@@ -15,6 +15,8 @@ pub mod Earlier
 pub mod Exact
 pub mod Follow
 pub mod Follower
+pub mod FromOffset
+pub mod GoingOn
 pub mod Handing
 pub mod Idle
 pub mod InitialSound

@@ -6,6 +6,7 @@ pub mod Handed
 pub mod Idle
 pub mod Instance
 pub mod Listing
+pub mod Onward
 pub mod Order
 pub mod Rehearsals
 pub mod Schedule
