@@ -1,12 +1,12 @@
 -- One command of a schedule, accepted and refused.
-use mathlib.Core.Path.{_≡_}
+use mathlib.Core.Path.{_≡_, ap}
 use mathlib.Core.Logic.{_≢_}
 use mathlib.Core.List.{List, _∷_}
 use Prim.Native.Nat.{ℕ, suc, _+_}
 use lib.ListN.{drop}
 use borrow.Author.Tests.{eq-eqb, ne-eqb}
 use Rattle.election.specs.Commands.{command}
-use Rattle.election.specs.Schedule.{follow}
+use Rattle.election.specs.Schedule.{End, follow}
 use Rattle.election.specs.declared.System.{System}
 
 module _ (fuel : ℕ) (s : System) (at b : ℕ) (bytes : List ℕ) where
@@ -14,6 +14,9 @@ module _ (fuel : ℕ) (s : System) (at b : ℕ) (bytes : List ℕ) where
   unfolding follow
   follow-yes t = rw (eq-eqb (command s (b ∷ bytes) .refusal) 0 t, follow)
 
-  pub follow-no : command s (b ∷ bytes) .refusal ≢ 0 → follow (suc fuel) s at (b ∷ bytes) .refusal ≡ command s (b ∷ bytes) .refusal
+  pub follow-stops : command s (b ∷ bytes) .refusal ≢ 0 → follow (suc fuel) s at (b ∷ bytes) ≡ record { refusal = command s (b ∷ bytes) .refusal; offset = at; system = s }
   unfolding follow
-  follow-no ne = rw (ne-eqb (command s (b ∷ bytes) .refusal) 0 ne, follow)
+  follow-stops ne = rw (ne-eqb (command s (b ∷ bytes) .refusal) 0 ne, follow)
+
+  pub follow-no : command s (b ∷ bytes) .refusal ≢ 0 → follow (suc fuel) s at (b ∷ bytes) .refusal ≡ command s (b ∷ bytes) .refusal
+  follow-no ne = ap (λ (e : End). e .refusal) (follow-stops ne)

@@ -21,7 +21,7 @@ use Rattle.election.specs.Sound.{sound}
 use Rattle.election.specs.System.{fresh}
 use Rattle.election.specs.declared.System.{System}
 use Rattle.election.proofs.Accepting.{accepts}
-use Rattle.election.proofs.Follow.{follow-yes}
+use Rattle.election.proofs.Follow.{follow-yes, follow-stops}
 use Rattle.election.proofs.FromOffset.{Walks, command-inside, from-end, from-refused, from-accepted}
 use Rattle.election.proofs.KeepsSound.{refusal-tests, keeps-sound}
 
@@ -124,7 +124,7 @@ follow-walks =
     record {
       spent = λ s at bytes. refl;
       ended = λ fuel s at. refl;
-      refused = λ fuel s at b bytes ne. rw (ne-eqb (command s (b ∷ bytes) .refusal) 0 ne, follow);
+      refused = follow-stops;
       accepted = follow-yes;
     }
 

@@ -26,6 +26,7 @@ pub mod KeepsSound
 pub mod Links
 pub mod NeverUnsound
 pub mod OneSender
+pub mod Operations
 pub mod Order
 pub mod Places
 pub mod Potential

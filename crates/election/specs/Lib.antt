@@ -7,6 +7,7 @@ pub mod Idle
 pub mod Instance
 pub mod Listing
 pub mod Onward
+pub mod Operations
 pub mod Order
 pub mod Rehearsals
 pub mod Schedule
