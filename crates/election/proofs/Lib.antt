@@ -32,6 +32,7 @@ pub mod Places
 pub mod Potential
 pub mod Reached
 pub mod Reaching
+pub mod SomeCode
 pub mod Soundness
 pub mod Spaced
 pub mod StationTick

@@ -47,3 +47,7 @@ SettlingOfCode =
     → Settles d L stretch (g bytes .system)
     × (g bytes .system ≡ reached (commands bytes) fresh)
     × ((k : ℕ) → obeyed f (take k stretch) (g bytes .system) ≡ given (take k stretch) (g bytes .system))
+
+-- there are such functions
+abbrev pub CodeExists : Type 0
+CodeExists = ((f : System → List ℕ → Commanded) × ObeysAs f) × ((g : List ℕ → Scheduled) × RunsAs g)
