@@ -1,14 +1,14 @@
--- What set up leaves: which places are links, as the code tests it, and the parts put together.
+-- What set up leaves, and the fresh system: which places are links, as the code tests it, and the parts put together.
 use mathlib.Core.Path.{_≡_, refl}
 use mathlib.Core.List.{List, []}
-use mathlib.Core.Bool.{true, not, _&&_}
+use mathlib.Core.Bool.{true, false, not, _&&_}
 use Prim.Native.Nat.{ℕ, _-_, _/_, _%_}
 use native.Mathlib.Decide.{ℕ-discrete}
 use native.Mathlib.Omega.{arith}
 use lib.ListN.{replicate}
 use lib.Dec.{ltb, eqb}
 use borrow.Author.Tests.{eq-eqb, ne-eqb}
-use Rattle.election.specs.System.{from, to, isLink, holding, initial}
+use Rattle.election.specs.System.{from, to, isLink, holding, unstarted, fresh, initial}
 use Rattle.election.specs.declared.Link.{Link}
 use Rattle.election.specs.declared.System.{System}
 use Rattle.station.specs.declared.Station.{Station}
@@ -27,3 +27,9 @@ pub set-up-is : (n period : ℕ) (xs : List Station) (ds : List ℕ) (l : Link) 
     → _≡_ {A = System} (record { ready = true; n = n; period = period; tick = 0; stations = xs; sent = replicate 8 0; delays = ds; links = replicate 64 l }) (initial n period)
 unfolding initial
 set-up-is n period xs ds l a b c = rw (a, b, c) refl
+
+-- the fresh system, from its empty station and link
+pub fresh-is : (x : Station) (l : Link) → x ≡ unstarted 0 → l ≡ holding []
+    → _≡_ {A = System} (record { ready = false; n = 0; period = 0; tick = 0; stations = replicate 8 x; sent = replicate 8 0; delays = replicate 64 0; links = replicate 64 l }) fresh
+unfolding fresh
+fresh-is x l e f = rw (e, f) refl

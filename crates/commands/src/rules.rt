@@ -1,11 +1,11 @@
-// What each accepted command leaves. A run is in crate ticks, and a report changes nothing.
+// The fresh system, and what each accepted command leaves. A run is in crate ticks, and a report changes nothing.
 ghost use mathlib.Core.Path.{_≡_};
 ghost use mathlib.Core.List.{[]};
 ghost use mathlib.Core.Bool.{cond};
 ghost use Prim.Native.Nat.{ℕ, _+_, _<_, _≤_};
 ghost use lib.Dec.{ltb};
 ghost use Rattle.station.specs.Fit.{lastTick, mostStarts};
-ghost use Rattle.election.specs.System.{station, place, from, to, holding, isLink, unstarted, initial};
+ghost use Rattle.election.specs.System.{station, place, from, to, holding, isLink, unstarted, fresh, initial};
 ghost use Rattle.election.specs.Commands.{Start, Crash, perform, withDelay, withoutMessages};
 use election::Link;
 use election::Message;
@@ -201,6 +201,24 @@ pub fn set_up(n: u8, period: u32) -> System
         stations,
         sent: [0; 8],
         delays,
+        links: [empty; 64],
+    }
+}
+
+// The fresh system: not set up, all its numbers zero.
+pub fn fresh() -> System
+    ensures { λ r. ⌜ r ≡ fresh ⌝ }
+{
+    let none = never_started(0);
+    let empty = empty_link();
+    System {
+        ready: false,
+        n: 0,
+        period: 0,
+        tick: 0,
+        stations: [none; 8],
+        sent: [0; 8],
+        delays: [0; 64],
         links: [empty; 64],
     }
 }

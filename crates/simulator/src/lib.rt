@@ -2,10 +2,17 @@
 // of their own.
 ghost use mathlib.Core.Path.{_≡_};
 ghost use Rattle.election.specs.Commands.{command, said};
+ghost use Rattle.election.specs.Schedule.{schedule};
+ghost use Rattle.election.specs.Schedule.{said as saidSchedule};
+use crate::rules::go_on;
 use crate::rules::step;
+use commands::rules::fresh;
 use election::Answer;
 use election::Commanded;
+use election::Ended;
 use election::Refusal;
+use election::Scheduled;
+use election::Stop;
 use election::System;
 use soundness::sound;
 
@@ -24,4 +31,42 @@ pub fn command(s: System, bytes: &[u8]) -> Commanded
         };
     }
     step(s, bytes)
+}
+
+// Does the commands of a schedule in order, from the fresh system, up to the first refusal.
+pub fn schedule(bytes: &[u8]) -> Scheduled
+    ensures { λ r. ⌜ saidSchedule r ≡ schedule (now (bytes .entry)) ⌝ }
+{
+    let mut s = fresh();
+    if 65536 < bytes.len() {
+        return Scheduled {
+            ended: Ended::Stopped {
+                at: 0,
+                refusal: Refusal::ScheduleLong,
+            },
+            system: s,
+        };
+    }
+    let mut at = 0;
+    loop {
+        let r = go_on(s, at, bytes);
+        let stop = r.stop;
+        s = r.system;
+        at = r.at;
+        match stop {
+            Stop::Report => {}
+            Stop::End => {
+                return Scheduled {
+                    ended: Ended::Whole(at),
+                    system: s,
+                };
+            }
+            Stop::Refused(why) => {
+                return Scheduled {
+                    ended: Ended::Stopped { at, refusal: why },
+                    system: s,
+                };
+            }
+        }
+    }
 }

@@ -4,10 +4,6 @@ use mathlib.Core.Path.{ap, _∙_}
 use borrow.Author.Needs.{needs}
 use Rattle.commands.proofs.rules.crash.Statement.{statement}
 use Rattle.commands.proofs.rules.crash.Tie as tie
-use Rattle.commands.proofs.rules.crash.Reads as reads
-use Rattle.commands.proofs.rules.crash.Lts as lts
-use Rattle.commands.proofs.rules.with_stations.Reads as with-stations-reads
-use Rattle.station.proofs.rules.crash.Reads as crash-reads
 
 -- src/rules.rt:49:14
 sub-k : tie.Need-sub-k

@@ -4,8 +4,6 @@ use Rattle.lists.specs.Entries.{over}
 use mathlib.Core.Path.{refl}
 use Rattle.commands.proofs.rules.empty_link.Statement.{statement}
 use Rattle.commands.proofs.rules.empty_link.Tie as tie
-use Rattle.commands.proofs.rules.empty_link.Reads as reads
-use Rattle.commands.proofs.rules.empty_link.Lts as lts
 
 -- src/rules.rt:87:1
 returns : tie.Need-returns

@@ -5,8 +5,6 @@ use mathlib.Core.Bool.{cond}
 use mathlib.Core.Path.{sym, ap, _∙_}
 use Rattle.commands.proofs.rules.first_delay.Statement.{statement}
 use Rattle.commands.proofs.rules.first_delay.Tie as tie
-use Rattle.commands.proofs.rules.first_delay.Reads as reads
-use Rattle.commands.proofs.rules.first_delay.Lts as lts
 
 -- src/rules.rt:164:1
 returns : tie.Need-returns

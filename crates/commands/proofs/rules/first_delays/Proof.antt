@@ -10,9 +10,6 @@ use Rattle.election.specs.System.{from, to, isLink, initial}
 use borrow.Author.Needs.{needs}
 use Rattle.commands.proofs.rules.first_delays.Statement.{statement}
 use Rattle.commands.proofs.rules.first_delays.Tie as tie
-use Rattle.commands.proofs.rules.first_delays.Reads as reads
-use Rattle.commands.proofs.rules.first_delays.Lts as lts
-use Rattle.commands.proofs.rules.first_delay.Reads as first-delay-reads
 
 abbrev Inv-loop : tie.InvT-loop
 Inv-loop n r₀ k₀ r k = (k ≤ 64) × (r ≡ firsts k (λ k. cond (isLink n (from k) (to k)) 1 0) (replicate 64 0))

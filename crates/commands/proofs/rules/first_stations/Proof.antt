@@ -11,10 +11,6 @@ use Rattle.election.specs.System.{unstarted, initial}
 use borrow.Author.Needs.{needs}
 use Rattle.commands.proofs.rules.first_stations.Statement.{statement}
 use Rattle.commands.proofs.rules.first_stations.Tie as tie
-use Rattle.commands.proofs.rules.first_stations.Reads as reads
-use Rattle.commands.proofs.rules.first_stations.Lts as lts
-use Rattle.commands.proofs.rules.never_started.Reads as never-started-reads
-use Rattle.commands.proofs.rules.own_number.Reads as own-number-reads
 
 abbrev Inv-loop : tie.InvT-loop
 Inv-loop n r₀ k₀ r k = (k ≤ 8) × (r ≡ firsts k (λ k. unstarted (cond (ltb k n) (k + 1) 0)) (replicate 8 (unstarted 0)))

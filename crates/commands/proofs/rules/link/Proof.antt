@@ -2,9 +2,6 @@
 use borrow.Author.Needs.{needs}
 use Rattle.commands.proofs.rules.link.Statement.{statement}
 use Rattle.commands.proofs.rules.link.Tie as tie
-use Rattle.commands.proofs.rules.link.Reads as reads
-use Rattle.commands.proofs.rules.link.Lts as lts
-use Rattle.commands.proofs.rules.place_of.Reads as place-of-reads
 
 -- src/rules.rt:68:9
 place-of-requires : tie.Need-place-of-requires

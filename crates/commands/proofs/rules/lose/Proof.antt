@@ -2,10 +2,6 @@
 use borrow.Author.Needs.{needs}
 use Rattle.commands.proofs.rules.lose.Statement.{statement}
 use Rattle.commands.proofs.rules.lose.Tie as tie
-use Rattle.commands.proofs.rules.lose.Reads as reads
-use Rattle.commands.proofs.rules.lose.Lts as lts
-use Rattle.commands.proofs.rules.empty_link.Reads as empty-link-reads
-use Rattle.commands.proofs.rules.place_of.Reads as place-of-reads
 
 -- src/rules.rt:106:9
 place-of-requires : tie.Need-place-of-requires

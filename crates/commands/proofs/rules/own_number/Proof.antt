@@ -4,8 +4,6 @@ use native.Mathlib.Omega.{arith}
 use borrow.Author.Needs.{needs}
 use Rattle.commands.proofs.rules.own_number.Statement.{statement}
 use Rattle.commands.proofs.rules.own_number.Tie as tie
-use Rattle.commands.proofs.rules.own_number.Reads as reads
-use Rattle.commands.proofs.rules.own_number.Lts as lts
 
 -- src/rules.rt:148:25
 cast-result : tie.Need-cast-result

@@ -3,11 +3,6 @@ use Rattle.commands.proofs.Initial.{set-up-is}
 use borrow.Author.Needs.{needs}
 use Rattle.commands.proofs.rules.set_up.Statement.{statement}
 use Rattle.commands.proofs.rules.set_up.Tie as tie
-use Rattle.commands.proofs.rules.set_up.Reads as reads
-use Rattle.commands.proofs.rules.set_up.Lts as lts
-use Rattle.commands.proofs.rules.empty_link.Reads as empty-link-reads
-use Rattle.commands.proofs.rules.first_delays.Reads as first-delays-reads
-use Rattle.commands.proofs.rules.first_stations.Reads as first-stations-reads
 
 -- src/rules.rt:189:9
 first-stations-requires : tie.Need-first-stations-requires

@@ -4,10 +4,6 @@ use mathlib.Core.Path.{ap, _∙_}
 use borrow.Author.Needs.{needs}
 use Rattle.commands.proofs.rules.start.Statement.{statement}
 use Rattle.commands.proofs.rules.start.Tie as tie
-use Rattle.commands.proofs.rules.start.Reads as reads
-use Rattle.commands.proofs.rules.start.Lts as lts
-use Rattle.commands.proofs.rules.with_stations.Reads as with-stations-reads
-use Rattle.station.proofs.rules.start.Reads as start-reads
 
 -- src/rules.rt:38:14
 sub-k : tie.Need-sub-k
