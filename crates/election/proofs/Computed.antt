@@ -12,7 +12,7 @@ use Rattle.election.specs.Tick.{heardLink, heardAll, expiredNow, slotted
 use Rattle.election.specs.Sound.{emptyStation, emptyMessage, messageIn, beforeSlot, linkIn, placeIn, stationIn, sound}
 use Rattle.election.specs.Commands.{decode, refusal, perform, command}
 use Rattle.election.specs.Schedule.{follow, schedule}
-use Rattle.election.specs.Listing.{digits, vector, stationLine, stationLines, aLeader, dark, agreed, verdict, listing, reported, lastLine, reports, output}
+use Rattle.election.specs.Listing.{digits, vector, stationLine, stationLines, aLeader, dark, agreed, verdict, listing, reported, endLine, reports, output}
 use Rattle.election.specs.Rehearsals.{Rehearsed, NoneOfTheErrors}
 
 -- every rule, to be unfolded
@@ -25,5 +25,5 @@ unfolding rules
 errors-ruled-out = ((refl, (refl, (refl, (refl, tt)))), refl, refl)
 
 pub rehearsed : Rehearsed
-unfolding rules digits vector stationLine stationLines aLeader dark agreed verdict listing reported lastLine reports output
+unfolding rules digits vector stationLine stationLines aLeader dark agreed verdict listing reported endLine reports output
 rehearsed = (refl, (refl, (refl, (refl, (refl, (refl, (refl, (refl, (refl, (refl, tt))))))))))

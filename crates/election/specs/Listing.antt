@@ -143,9 +143,12 @@ unfoldable pub reported : System → List ℕ → List ℕ
 reported s bytes = cond (eqb (getD bytes 0 0) 7) (listing s) []
 
 -- the last line: end and the schedule's length, or the refusal and its offset
-unfoldable pub lastLine : End → List ℕ
-lastLine e =
-    cond (eqb (e .refusal) 0) (endWord ++ decimal (e .offset)) (refusedWord ++ decimal (e .refusal) ++ atWord ++ decimal (e .offset)) ++ newline
+unfoldable pub endLine : ℕ → ℕ → List ℕ
+endLine refusal offset =
+    cond (eqb refusal 0) (endWord ++ decimal offset) (refusedWord ++ decimal refusal ++ atWord ++ decimal offset) ++ newline
+
+abbrev pub lastLine : End → List ℕ
+lastLine e = endLine (e .refusal) (e .offset)
 
 -- the listings of the accepted reports of the bytes, in order
 unfoldable pub reports : ℕ → System → List ℕ → List ℕ

@@ -1,5 +1,6 @@
 -- The listing in pieces, as the code writes it.
 pub mod Join
 pub mod Pieces
+pub mod Room
 pub mod Verdicts
 pub mod Wrote

@@ -8,6 +8,7 @@ use election::Refusal;
 use election::System;
 use soundness::sound;
 
+pub mod ending;
 pub mod rules;
 mod sizes;
 mod text;

@@ -1,0 +1,75 @@
+-- Every listing of at most eight stations, and every last line, has at most 2,700 bytes.
+use mathlib.Core.Path.{refl}
+use mathlib.Core.List.{List, [], _∷_, _++_}
+use mathlib.Core.Bool.{Bool, true, false, cond}
+use Prim.Native.Nat.{ℕ, zero, suc, _+_, _*_, _≤_}
+use native.Mathlib.Omega.{arith}
+use lib.Dec.{eqb}
+use lib.ListN.{length, getD, length-append}
+use Rattle.station.specs.declared.Station.{Station}
+use Rattle.election.specs.System.{noStation}
+use Rattle.election.specs.Listing.{decimal, newline, upWord, downWord, noneWord, endWord, refusedWord, atWord, endLine}
+use Rattle.listing.specs.Join.{joinTo}
+use Rattle.listing.specs.Pieces.{countOf, counts, status, leaderOf, recOf, who, known, ends, line, lines}
+use Rattle.listing.specs.Verdicts.{verdictOf, verdictLine}
+use Rattle.listing.specs.declared.Verdict.{Verdict}
+use Rattle.listing.specs.declared.Verdict.the-variants.{Dark, Agreed, Split}
+use Rattle.listing.specs.Room.{ListingRoom, EndRoom}
+use Rattle.listing.proofs.Digits.{length-decimal}
+use Rattle.listing.proofs.Same.{size-is}
+
+-- one of two lists is at most as long as the longer
+either : (b : Bool) (x y : List ℕ) (most : ℕ) → length x ≤ most → length y ≤ most → length (cond b x y) ≤ most
+either true x y most a b = a
+either false x y most a b = b
+
+joined : (f : ℕ → List ℕ) (most n : ℕ) → ((k : ℕ) → length (f k) ≤ most) → length (joinTo n f) ≤ n * most
+unfolding joinTo
+joined f most zero h = omega arith
+joined f most (suc n) h = omega (arith, length-append (joinTo n f) (f n), joined f most n h, h n)
+
+counts-room : (n : ℕ) (v : List ℕ) → length (counts n v) ≤ n * 21
+unfolding counts countOf
+counts-room n v = joined (λ k. countOf k (getD v k 0)) 21 n (λ k. simp length-append (omega (arith, either (eqb k 0) [] (44 ∷ []) 1 (omega arith) (omega arith), length-decimal (getD v k 0))))
+
+who-room : (p : ℕ) (x : Station) → length (who p x) ≤ 60
+unfolding who status leaderOf
+who-room p x =
+    simp length-append
+    (omega (arith, length-decimal p, either (x .up) upWord downWord 5 (omega arith) (omega arith), either (x .up) (decimal (x .leader)) noneWord 20 (length-decimal (x .leader)) (omega arith)))
+
+known-room : (n : ℕ) (x : Station) → n ≤ 8 → length (known n x) ≤ 200
+unfolding known recOf
+known-room n x h =
+    simp length-append
+    (omega (arith, length-decimal (x .incarnation), either (x .up) (counts n (x .recovered)) noneWord 168 (omega (arith, counts-room n (x .recovered))) (omega arith)))
+
+ends-room : (sent : ℕ) (x : Station) → length (ends sent x) ≤ 60
+unfolding ends
+ends-room sent x = simp length-append (omega (arith, length-decimal sent, length-decimal (x .stable)))
+
+line-room : (n p : ℕ) (x : Station) (sent : ℕ) → n ≤ 8 → length (line n p x sent) ≤ 320
+unfolding line
+line-room n p x sent h = simp length-append (omega (arith, who-room p x, known-room n x h, ends-room sent x))
+
+lines-room : (n : ℕ) (stations : List Station) (sent : List ℕ) → n ≤ 8 → length (lines n stations sent) ≤ n * 320
+unfolding lines
+lines-room n stations sent h = joined (λ k. line n (k + 1) (getD stations k noStation) (getD sent k 0)) 320 n (λ k. line-room n (k + 1) (getD stations k noStation) (getD sent k 0) h)
+
+verdict-room : (v : Verdict) → length (verdictLine v) ≤ 28
+unfolding verdictLine
+verdict-room Dark = omega arith
+verdict-room (Agreed l) = simp length-append (omega (arith, length-decimal l))
+verdict-room Split = omega arith
+
+pub listing-room : ListingRoom
+listing-room s h =
+    let v : Verdict = verdictOf (s .n) (s .stations) in
+    omega (arith, size-is s v refl, length-decimal (s .tick), lines-room (s .n) (s .stations) (s .sent) h, verdict-room v)
+
+pub end-room : EndRoom
+unfolding endLine
+end-room refusal offset =
+    let a : List ℕ = endWord ++ decimal offset in
+    let b : List ℕ = refusedWord ++ decimal refusal ++ atWord ++ decimal offset in
+    omega (arith, length-append (cond (eqb refusal 0) a b) newline, either (eqb refusal 0) a b 100 (simp length-append (omega (arith, length-decimal offset))) (simp length-append (omega (arith, length-decimal refusal, length-decimal offset))))
