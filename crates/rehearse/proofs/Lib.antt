@@ -1,0 +1,2 @@
+-- What the program does at each stop.
+pub mod Stops
