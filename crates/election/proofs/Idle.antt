@@ -1,37 +1,33 @@
--- An idle tick only raises the counter.
+-- Idle ticks only raise the counter.
 use mathlib.Core.Path.{_≡_, refl, sym, ap, subst, subst₂, _∙_}
 use mathlib.Core.Logic.{_≢_}
 use mathlib.Core.List.{List, [], _∷_, append-nil}
 use mathlib.Core.Bool.{Bool, true, false, cond, not, _&&_, and-false}
-use Prim.Native.Nat.{ℕ, zero, suc, _+_, _-_, _<_, _≤_}
+use Prim.Native.Nat.{ℕ, zero, suc, _+_, _-_, _<_}
 use native.Mathlib.Decide.{decLt}
 use native.Mathlib.Omega.{arith}
-use lib.ListN.{length, getD, take, replicate, length-take}
-use lib.Seq.{getD-take, ext-getD}
+use lib.ListN.{getD, take}
+use lib.Seq.{ext-getD}
 use lib.Dec.{ltb, eqb}
-use borrow.Author.Tests.{eqb-true, eqb-false, ne-eqb, lt-ltb, le-ltb, not-true}
+use borrow.Author.Tests.{eqb-false, ne-eqb, lt-ltb, le-ltb, not-true}
 use Rattle.lists.specs.Entries.{upTo}
 use Rattle.lists.specs.Every.{All}
 use Rattle.lists.specs.Test.{allTo}
-use Rattle.lists.proofs.Bools.{both, three, cond-elim}
-use Rattle.lists.proofs.Entries.{length-upTo, getD-upTo, length-over}
+use Rattle.lists.proofs.Bools.{both, cond-elim}
+use Rattle.lists.proofs.Entries.{length-upTo, getD-upTo}
 use Rattle.lists.proofs.Fold.{each-keeps}
 use Rattle.lists.proofs.Test.{all-at}
-use Rattle.station.specs.Fit.{countsIn}
 use Rattle.station.specs.declared.Station.{Station}
-use Rattle.station.proofs.Tests.{counts-of}
-use Rattle.station.proofs.Vectors.{zeros-at}
-use Rattle.election.specs.Idle.{quietStation, quietLink, idle, raised, Held, IdleTick, IdleHeld, TickHeld}
-use Rattle.election.specs.Sound.{emptyMessage, messageAt}
-use Rattle.election.specs.System.{noStation, noMessage, noLink, station, place, from, to, messages, unused, holding, underway, isLink}
-use Rattle.election.specs.Tick.{next, heardLink, heardAll, expiredNow, slottedNow, settled, sending, sent, underwayAfter, tick}
+use Rattle.election.specs.Idle.{quietStation, quietLink, quietAt, idle, atTick, Held, IdleHeld, IdleTicks, TickHeld}
+use Rattle.election.specs.Sound.{messageAt}
+use Rattle.election.specs.System.{noStation, noMessage, noLink, station, place, from, to, messages, holding, underway, isLink}
+use Rattle.election.specs.Tick.{next, heardLink, heardAll, expiredNow, slottedNow, settled, sending, sent, underwayAfter, tick, ticks}
 use Rattle.election.specs.declared.Link.{Link}
 use Rattle.election.specs.declared.Message.{Message}
 use Rattle.election.specs.declared.System.{System}
 use Rattle.election.proofs.Invariant.{later-none}
-use Rattle.election.proofs.Links.{Linked, holding-used, holding-at, holding-rest}
 use Rattle.election.proofs.Places.{In, messages-holding}
-use Rattle.election.proofs.Soundness.{Sound, sound-of, link-of, place-of}
+use Rattle.election.proofs.Soundness.{sound-of, link-of, place-of}
 use Rattle.election.proofs.TickSound.{after-few}
 
 -- a link with no message due: none of its messages is due
@@ -56,7 +52,7 @@ hears-none-due me q now (m ∷ ms) x h = rw (ne-eqb (m .due) now (h .0)) (hears-
 module _ (s : System) (e : idle s ≡ true) where
   quiet : (allTo (s .n) (λ k. quietStation (next s) (station s (k + 1))) ≡ true)
       × (allTo (s .n) (λ j. allTo (s .n) (λ k. quietLink (next s) (getD (s .links) (place (j + 1) (k + 1)) noLink))) ≡ true)
-  unfolding idle
+  unfolding quietAt
   quiet =
       both (allTo (s .n) (λ k. quietStation (next s) (station s (k + 1))))
       (allTo (s .n) (λ j. allTo (s .n) (λ k. quietLink (next s) (getD (s .links) (place (j + 1) (k + 1)) noLink)))) e
@@ -166,7 +162,7 @@ module _ (s : System) (full : Held s) (e : idle s ≡ true) where
       go k h false i = refl
 
 pub idle-held : IdleHeld
-unfolding tick raised
+unfolding tick atTick
 idle-held s full e =
     λ i. record {
       ready = s .ready;
@@ -179,58 +175,19 @@ idle-held s full e =
       links = same-links s full e i;
     }
 
--- an empty place with eight counts is an unused one
-empty-unused : (m : Message) → length (m .counts) ≡ 8 → emptyMessage m ≡ true → m ≡ unused
-unfolding emptyMessage
-empty-unused m eight e =
-    let (a, b, c) = three (eqb (m .sent) 0) (eqb (m .due) 0) (countsIn 0 (m .counts)) e in
-    let none : (k : ℕ) → k < 8 → getD (m .counts) k 0 ≤ 0 = λ k h. rw (le-ltb k 0 (omega arith)) at (counts-of 0 (m .counts) c k h) in
-    let zeros : m .counts ≡ replicate 8 0 = ext-getD 0 (m .counts) (replicate 8 0) eight (λ k h. omega (arith, none k (omega arith), zeros-at k)) in
-    λ i. record { sent = eqb-true (m .sent) 0 a i; due = eqb-true (m .due) 0 b i; counts = zeros i }
+-- whatever the counter
+pub held-at : (t : ℕ) (s : System) → Held s → Held (atTick t s)
+unfolding atTick
+held-at t s full = record { stations = full .stations; sent = full .sent; links = full .links; held = full .held }
 
-length-holding : (ms : List Message) → length ms ≤ 4 → length (holding ms .messages) ≡ 4
-unfolding holding
-length-holding ms h = length-over ms (replicate 4 unused) h
-
--- a link with four places of which the unused are empty holds its messages
-linked-held : (n period tick : ℕ) (sender : Station) (l : Link) → length (l .messages) ≡ 4 → ((i : ℕ) → i < 4 → length (messageAt l i .counts) ≡ 8)
-    → Linked n period tick sender l → holding (messages l) ≡ l
-unfolding messages
-linked-held n period tick sender l four eight f =
-    λ i. record { used = (holding-used front few ∙ size) i; messages = same i }
-  where
-    front : List Message
-    front = take (l .used) (l .messages)
-
-    size : length front ≡ l .used
-    size = omega (arith, length-take (l .used) (l .messages), f .few)
-
-    few : length front ≤ 4
-    few = omega (arith, size, f .few)
-
-    long : length (holding front .messages) ≡ 4
-    long = length-holding front few
-
-    at : (k : ℕ) → k < 4 → Dec (k < l .used) → messageAt (holding front) k ≡ messageAt l k
-    at k h (yes i) = holding-at front few k (omega (arith, size)) ∙ getD-take (l .used) (l .messages) k noMessage i
-    at k h (no i) =
-        holding-rest front few k h (omega (arith, size))
-        ∙ sym (empty-unused (messageAt l k) (eight k h) (f .rest k h (omega arith)))
-
-    same : holding front .messages ≡ l .messages
-    same = ext-getD noMessage (holding front .messages) (l .messages) (long ∙ sym four) (λ k h. at k (omega (arith, long)) (decLt k (l .used)))
-
-pub idle-tick : IdleTick
-idle-tick s e u arrays still = idle-held s (record { stations = arrays .stations; sent = arrays .sent; links = arrays .links; held = held }) still
-  where
-    f : Sound s
-    f = sound-of s e u
-
-    held : (k : ℕ) → k < 64 → isLink (s .n) (from k) (to k) ≡ true → holding (messages (getD (s .links) k noLink)) ≡ getD (s .links) k noLink
-    held k h i =
-        let (hp, hq, ne) = link-of (s .n) (from k) (to k) (omega arith) (omega arith) i in
-        linked-held (s .n) (s .period) (s .tick) (station s (from k)) (getD (s .links) k noLink) (arrays .messages k h) (λ j l. arrays .counts k j h l)
-        (subst (λ x. Linked (s .n) (s .period) (s .tick) (station s (from k)) (getD (s .links) x noLink)) (place-of k h) (f .linked (from k) (to k) hp hq ne))
+pub idle-ticks : IdleTicks
+unfolding ticks quietAt atTick
+idle-ticks zero s full h = let z : s .tick + 0 ≡ s .tick = omega arith in rw z refl
+idle-ticks (suc k) s full h =
+    let z : next s + k ≡ s .tick + suc k = omega arith in
+    ap (ticks k) (idle-held s full (h (next s) (omega arith) (omega arith)))
+    ∙ idle-ticks k (atTick (next s) s) (held-at (next s) s full) (λ now a b. h now (omega arith) (omega arith))
+    ∙ ap (λ t. atTick t s) z
 
 -- what a tick leaves
 pub tick-held : TickHeld

@@ -1,14 +1,13 @@
 -- What a sound system gives to the steps of a tick: sums and places in range.
 use mathlib.Core.Path.{_≡_, refl, sym, ap, _∙_}
-use mathlib.Core.List.{List, [], _∷_}
-use mathlib.Core.Bool.{Bool, true, false, cond, not, _&&_}
+use mathlib.Core.List.{List}
+use mathlib.Core.Bool.{Bool, true, false, not, _&&_}
 use Prim.Native.Nat.{ℕ, _+_, _-_, _*_, _<_, _≤_}
 use native.Mathlib.Decide.{ℕ-discrete}
 use native.Mathlib.Omega.{arith}
 use lib.Dec.{eqb}
 use lib.ListN.{getD}
 use borrow.Author.Tests.{eqb-true}
-use Rattle.lists.specs.Every.{All}
 use Rattle.lists.specs.Fold.{each}
 use Rattle.lists.proofs.Bools.{both, three, five}
 use Rattle.station.specs.Order.{entry}
@@ -17,17 +16,14 @@ use Rattle.station.specs.Rules.{other}
 use Rattle.station.specs.declared.Station.{Station}
 use Rattle.station.proofs.Keeps.{during-expires}
 use Rattle.station.proofs.Safe.{expire-safe}
-use Rattle.station.proofs.Unchanged.{heard-timeouts}
 use Rattle.station.proofs.Tests.{Timeouts, timeouts-of, fit-of, fit-down}
-use Rattle.election.specs.System.{noStation, noLink, station, place, messages, underway}
-use Rattle.election.specs.Tick.{heardLink, heardAll, expiredNow, settled}
+use Rattle.election.specs.System.{noStation, noLink, station, place, underway}
+use Rattle.election.specs.Tick.{heardLink, heardAll}
 use Rattle.election.specs.declared.Link.{Link}
-use Rattle.election.specs.declared.Message.{Message}
 use Rattle.election.specs.declared.System.{System}
 use Rattle.election.proofs.Places.{In, seat-in, widen, place-in, from-place, to-place}
 use Rattle.election.proofs.Soundness.{Sound, emptyPlace, no-self, sound-of}
 use Rattle.election.proofs.StationTick.{heard-timely}
-use Rattle.election.proofs.Steps.{link-keeps}
 use Rattle.ticks.specs.Sending.{Ticking}
 
 -- no timeout is above the highest
@@ -45,7 +41,7 @@ empty x c =
     let (a, b, d, e, v) = five (eqb (x .leader) 0) (eqb (x .timer) 0) (eqb (x .slot) 0) (not (x .recovering)) (countsIn 0 (x .recovered) && timeoutsIn 0 0 0 0 (x .timeouts)) c in
     both (countsIn 0 (x .recovered)) (timeoutsIn 0 0 0 0 (x .timeouts)) v .1
 
-unused-self : (delay : ℕ) (l : Link) → emptyPlace delay l ≡ true → l .used ≡ 0
+pub unused-self : (delay : ℕ) (l : Link) → emptyPlace delay l ≡ true → l .used ≡ 0
 unfolding emptyPlace
 unused-self delay l e = let (a, b, c) = three (eqb delay 0) (eqb (l .used) 0) _ e in eqb-true (l .used) 0 b
 
@@ -84,12 +80,6 @@ module _ (s : System) (t : Ticking s) where
       → x .timer ≡ s .tick + 1 → (1 ≤ x .leader) × (x .leader ≤ 8) × (entry (x .timeouts) (x .leader) ≤ longest lastTick)
   timer-safe p ip u x e d = expire-safe p (s .n) (s .period) (s .tick + 1) x (during-expires p (s .n) (s .period) (s .tick + 1) x (rw e (heard-timely s is (t .room) p ip u)) d)
 
--- station p + 1 after (a) and (b), from what it heard
-pub settled-at : (s : System) (p : ℕ) (x : Station) → x ≡ each (s .n) (λ k. heardLink (p + 1) (k + 1) (s .tick + 1) (underway s (k + 1) (p + 1))) (getD (s .stations) p noStation)
-    → cond (getD (s .stations) p noStation .up) (expiredNow (p + 1) (s .tick + 1) x) (getD (s .stations) p noStation) ≡ settled s (p + 1)
-unfolding settled heardAll
-settled-at s p x e = let b : p + 1 - 1 ≡ p = omega arith in rw (e, b)
-
 -- the same by places from 0, as the loops count
 module _ (s : System) (t : Ticking s) (p q : ℕ) (hp : p < s .n) (hq : q < s .n) where
   ip : In (s .n) (p + 1)
@@ -122,19 +112,3 @@ sent-at s t k h =
     let f = is s t in
     let b : k + 1 - 1 ≡ k = omega arith in
     (omega (arith, f .n-low), f .n-high, omega (arith, rw b at (f .few (k + 1) (seat-in (s .n) k h)), f .tick-high))
-
--- the messages of the link from q + 1 to p + 1
-pub heard-at : (s : System) (p q now : ℕ) (x : Station) → heardLink (p + 1) (q + 1) now (messages (getD (s .links) (8 * q + p) noLink)) x ≡ heardLink (p + 1) (q + 1) now (underway s (q + 1) (p + 1)) x
-heard-at s p q now x =
-    let a : p + 1 - 1 ≡ p = omega arith in
-    let b : q + 1 - 1 ≡ q = omega arith in
-    rw (a, b)
-
-pub heardLink-timeouts : (me q now : ℕ) (ms : List Message) (x r : Station) → r ≡ heardLink me q now ms x → r .timeouts ≡ x .timeouts
-heardLink-timeouts me q now ms x r e =
-    ap (λ (z : Station). z .timeouts) e
-    ∙ link-keeps (λ z. z .timeouts ≡ x .timeouts) (λ v. Unit {0}) me now q (λ v y o h. heard-timeouts me q v now y ∙ h) ms x (anything now ms) refl
-  where
-    anything : (now : ℕ) (ms : List Message) → All (λ (m : Message). m .due ≡ now → Unit {0}) ms
-    anything now [] = tt
-    anything now (m ∷ ms) = ((λ e. tt), anything now ms)

@@ -1,41 +1,78 @@
--- A run goes on tick by tick.
-use mathlib.Core.Path.{_≡_, sym, ap, subst, _∙_}
+-- A run goes on from tick to tick, past those in which nothing is due.
+use mathlib.Core.Path.{_≡_, refl, sym, ap, _∙_}
 use mathlib.Core.Bool.{true}
-use Prim.Native.Nat.{ℕ, suc, _+_, _-_, _<_, _≤_}
+use Prim.Native.Nat.{ℕ, zero, suc, _+_, _-_, _<_, _≤_}
 use native.Mathlib.Omega.{arith}
 use Rattle.station.specs.Fit.{lastTick}
+use Rattle.election.specs.Idle.{quietAt, atTick, Held}
 use Rattle.election.specs.Sound.{sound}
 use Rattle.election.specs.Tick.{tick, ticks}
 use Rattle.election.specs.declared.System.{System}
-use Rattle.election.proofs.Places.{tick-tick, tick-ready}
+use Rattle.election.proofs.Idle.{held-at, idle-ticks, tick-held}
+use Rattle.election.proofs.Places.{tick-tick, tick-n, tick-ready}
 use Rattle.election.proofs.Soundness.{of-sound, sound-of}
-use Rattle.election.proofs.TickSound.{tick-sound}
+use Rattle.election.proofs.TickSound.{tick-sound, ticks-sound, ticks-ready}
 use Rattle.ticks.specs.Sending.{Ticking}
+use Rattle.ticks.proofs.Whole.{Full}
 
--- after k of t ticks from s: what is left of the run leads to the same system
-pub record Going (t : ℕ) (s : System) (k : ℕ) (r : System) : Type 0 where
+-- a run of t ticks from s has come to r: what is left of it leads to the same system
+pub record Going (t : ℕ) (s r : System) : Type 0 where
   pub is-sound : sound r ≡ true
   pub is-ready : r .ready ≡ true
-  pub room : r .tick + (t - k) ≤ lastTick
-  pub rest : ticks (t - k) r ≡ ticks t s
+  pub full : Full r
+  pub size : r .n ≡ s .n
+  pub reached : r .tick ≤ s .tick + t
+  pub room : s .tick + t ≤ lastTick
+  pub rest : ticks (s .tick + t - r .tick) r ≡ ticks t s
 
-pub going-first : (t : ℕ) (s : System) → sound s ≡ true → s .ready ≡ true → s .tick + t ≤ lastTick → Going t s 0 s
-going-first t s e r h = let z : t - 0 ≡ t = omega arith in record { is-sound = e; is-ready = r; room = omega arith; rest = ap (λ k. ticks k s) z }
+pub going-first : (t : ℕ) (s : System) → sound s ≡ true → s .ready ≡ true → Full s → s .tick + t ≤ lastTick → Going t s s
+going-first t s e u full h =
+    let z : s .tick + t - s .tick ≡ t = omega arith in
+    record { is-sound = e; is-ready = u; full = full; size = refl; reached = omega arith; room = h; rest = ap (λ k. ticks k s) z }
 
-pub going-ticking : (t : ℕ) (s : System) (k : ℕ) (r : System) → k < t → Going t s k r → Ticking r
-going-ticking t s k r h g = record { is-sound = g .is-sound; is-ready = g .is-ready; room = omega (arith, g .room) }
-
-pub going-on : (t : ℕ) (s : System) (k : ℕ) (r r′ : System) → k < t → Going t s k r → r′ ≡ tick r → Going t s (k + 1) r′
+pub going-done : (t : ℕ) (s r : System) → Going t s r → s .tick + t ≤ r .tick → r ≡ ticks t s
 unfolding ticks
-going-on t s k r r′ h g e =
-    subst (Going t s (k + 1)) (sym e)
-    (record {
-      is-sound = of-sound (tick r) (tick-sound r (sound-of r (g .is-sound) (g .is-ready)) (omega (arith, g .room))) (tick-ready r ∙ g .is-ready);
-      is-ready = tick-ready r ∙ g .is-ready;
-      room = rw (tick-tick r) (omega (arith, g .room));
-      rest = let m : t - k ≡ suc (t - (k + 1)) = omega arith in rw m at (g .rest);
-    })
+going-done t s r g h = let z : s .tick + t - r .tick ≡ 0 = omega arith in rw z at (g .rest)
 
-pub going-done : (t : ℕ) (s : System) (k : ℕ) (r : System) → k ≡ t → Going t s k r → r ≡ ticks t s
+ticks-add : (j k : ℕ) (s : System) → ticks k (ticks j s) ≡ ticks (j + k) s
 unfolding ticks
-going-done t s k r h g = let m : t - k ≡ 0 = omega arith in rw m at (g .rest)
+ticks-add zero k s = let z : zero + k ≡ k = omega arith in rw z
+ticks-add (suc j) k s = let z : suc j + k ≡ suc (j + k) = omega arith in rw z (ticks-add j k (tick s))
+
+module _ (t : ℕ) (s r : System) (g : Going t s r) (h : r .tick < s .tick + t) where
+  pub going-ticking : Ticking r
+  going-ticking = record { is-sound = g .is-sound; is-ready = g .is-ready; room = omega (arith, g .room) }
+
+  module _ (until : ℕ) (low : r .tick + 1 ≤ until) (high : until ≤ s .tick + t) (calm : (now : ℕ) → r .tick + 1 < now → now ≤ until → quietAt now (tick r) ≡ true) where
+    skipped : ℕ
+    skipped = until - (r .tick + 1)
+
+    held : Held (tick r)
+    held = tick-held r (g .is-sound) (g .is-ready) (omega (arith, g .room))
+
+    at-until : atTick until (tick r) ≡ ticks skipped (tick r)
+    unfolding skipped
+    at-until =
+        let z : r .tick + 1 + (until - (r .tick + 1)) ≡ until = omega arith in
+        sym (idle-ticks skipped (tick r) held (λ now a b. calm now (omega (arith, tick-tick r)) (omega (arith, tick-tick r))) ∙ ap (λ k. atTick k (tick r)) (ap (λ k. k + skipped) (tick-tick r) ∙ z))
+
+    now-ready : ticks skipped (tick r) .ready ≡ true
+    now-ready = ticks-ready skipped (tick r) ∙ tick-ready r ∙ g .is-ready
+
+    pub going-held : Held (atTick until (tick r))
+    going-held = held-at until (tick r) held
+
+    pub going-on : Going t s (atTick until (tick r))
+    unfolding ticks atTick skipped
+    going-on =
+        record {
+          is-sound = rw at-until (of-sound (ticks skipped (tick r)) (ticks-sound skipped (tick r) (omega (arith, tick-tick r, g .room)) (tick-sound r (sound-of r (g .is-sound) (g .is-ready)) (omega (arith, g .room)))) now-ready);
+          is-ready = tick-ready r ∙ g .is-ready;
+          full = record { stations = held .stations; sent = held .sent; links = held .links };
+          size = tick-n r ∙ g .size;
+          reached = high;
+          room = g .room;
+          rest =
+              let z : s .tick + t - r .tick ≡ suc (until - (r .tick + 1) + (s .tick + t - until)) = omega arith in
+              ap (ticks (s .tick + t - until)) at-until ∙ ticks-add skipped (s .tick + t - until) (tick r) ∙ rw z at (g .rest);
+        }

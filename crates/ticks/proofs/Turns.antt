@@ -7,9 +7,10 @@ use native.Mathlib.Numerals.{add-one}
 use native.Mathlib.Omega.{arith}
 use lib.Dec.{eqb}
 use lib.ListN.{length, getD, take, set, replicate, length-append}
-use borrow.Author.Tests.{eq-eqb, ne-eqb}
+use borrow.Author.Tests.{eq-eqb, ne-eqb, not-true, not-false}
 use Rattle.lists.specs.Entries.{over}
 use Rattle.lists.specs.Filter.{whereTo}
+use Rattle.lists.proofs.Bools.{cond-yes, cond-no}
 use Rattle.lists.proofs.Entries.{over-snoc}
 use Rattle.lists.proofs.Filter.{Kept}
 use lib.Seq.{take-suc}
@@ -20,6 +21,7 @@ use Rattle.election.specs.System.{noMessage, unused, messages, holding}
 use Rattle.election.specs.Tick.{heardLink, later}
 use Rattle.election.specs.declared.Link.{Link}
 use Rattle.election.specs.declared.Message.{Message}
+use Rattle.ticks.specs.Sending.{hears}
 
 -- one message more is heard
 heardLink-snoc : (me q now : ℕ) (ms : List Message) (m : Message) (x : Station) → heardLink me q now (ms ++ (m ∷ [])) x ≡ cond (eqb (m .due) now) (heard me q (m .counts) now (heardLink me q now ms x)) (heardLink me q now ms x)
@@ -44,6 +46,16 @@ heard-or-not me q now m x r e = ap (λ (z : Station). z .timeouts) e ∙ go (eqb
     go : (b : Bool) → cond b (heard me q (m .counts) now x) x .timeouts ≡ x .timeouts
     go true = heard-timeouts me q (m .counts) now x
     go false = refl
+
+-- a station that is down hears nothing
+module _ (me q now : ℕ) (ms : List Message) (x : Station) where
+  pub hears-down : not (x .up) ≡ true → x ≡ hears me q now ms x
+  unfolding hears
+  hears-down d = sym (cond-no {b = x .up} _ _ (not-true (x .up) d))
+
+  pub hears-up : (r : Station) → not (x .up) ≡ false → r ≡ heardLink me q now ms x → r ≡ hears me q now ms x
+  unfolding hears
+  hears-up r u e = e ∙ sym (cond-yes {b = x .up} _ _ (not-false (x .up) u))
 
 -- one message more is kept, or left out
 later-snoc : (now : ℕ) (ms : List Message) (m : Message) → later now (ms ++ (m ∷ [])) ≡ later now ms ++ cond (eqb (m .due) now) [] (m ∷ [])

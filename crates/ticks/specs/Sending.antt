@@ -4,12 +4,10 @@ use mathlib.Core.List.{List, [], _∷_}
 use mathlib.Core.Bool.{Bool, true, cond, not, _&&_}
 use Prim.Native.Nat.{ℕ, _+_, _<_}
 use lib.Dec.{eqb}
-use Rattle.lists.specs.Entries.{firsts}
 use Rattle.station.specs.Fit.{lastTick}
 use Rattle.station.specs.declared.Station.{Station}
 use Rattle.election.specs.Sound.{sound}
-use Rattle.election.specs.Tick.{settled, tick}
-use Rattle.election.specs.declared.Link.{Link}
+use Rattle.election.specs.Tick.{heardLink}
 use Rattle.election.specs.declared.Message.{Message}
 use Rattle.election.specs.declared.System.{System}
 
@@ -19,9 +17,13 @@ pub record Ticking (s : System) : Type 0 where
   pub is-ready : s .ready ≡ true
   pub room : s .tick < lastTick
 
--- all stations after (a) and (b)
-abbrev pub settledAll : System → List Station
-settledAll s = firsts (s .n) (λ k. settled s (k + 1)) (s .stations)
+-- a station that is up hears the messages of a link that are due now
+unfoldable pub hears : ℕ → ℕ → ℕ → List Message → Station → Station
+hears me q now ms x = cond (x .up) (heardLink me q now ms x) x
+
+-- the timer of a station that is up is due now
+abbrev pub timerEnds : ℕ → Station → Bool
+timerEnds now x = x .up && eqb (x .timer) now
 
 -- a message that is due a delay from now; none if nothing is sent, or the link is cut
 abbrev pub sentOver : ℕ → Bool → ℕ → List ℕ → List Message
@@ -30,13 +32,3 @@ sentOver now sends delay counts = cond (sends && not (eqb delay 0)) (record { se
 -- a station that has settled sends LEADER
 abbrev pub sendsNow : ℕ → ℕ → Station → Bool
 sendsNow me now x = x .up && eqb (x .slot) now && eqb (x .leader) me
-
--- the fields of the system after a tick
-abbrev pub linksAfter : System → List Link
-linksAfter s = tick s .links
-
-abbrev pub stationsAfter : System → List Station
-stationsAfter s = tick s .stations
-
-abbrev pub sentAfter : System → List ℕ
-sentAfter s = tick s .sent

@@ -1,4 +1,4 @@
--- The function rules::kept meets its contract.
+-- The function steps::kept meets its contract.
 use lib.ListN.{length-set}
 use mathlib.Core.Path.{_≡_, refl, ap, _∙_}
 use mathlib.Core.Logic.{⊎-elim}
@@ -9,11 +9,8 @@ use Rattle.election.specs.System.{noMessage, unused}
 use Rattle.lists.proofs.Filter.{Kept, kept-none, kept-takes, kept-leaves}
 use Rattle.ticks.proofs.Turns.{staying, entryOf, stays, goes, kept-holds}
 use borrow.Author.Needs.{needs}
-use Rattle.ticks.proofs.rules.kept.Statement.{statement}
-use Rattle.ticks.proofs.rules.kept.Tie as tie
-use Rattle.ticks.proofs.rules.kept.Reads as reads
-use Rattle.ticks.proofs.rules.kept.Lts as lts
-use Rattle.ticks.proofs.rules.unused.Reads as unused-reads
+use Rattle.ticks.proofs.steps.kept.Statement.{statement}
+use Rattle.ticks.proofs.steps.kept.Tie as tie
 
 abbrev Inv-loop : tie.InvT-loop
 Inv-loop now ms used out₀ to₀ k₀ out to k = (k ≤ used) × (to ≤ k) × (length out ≡ 4) × Kept k (staying now ms) (entryOf ms) (replicate 4 unused) to out
@@ -21,47 +18,9 @@ Inv-loop now ms used out₀ to₀ k₀ out to k = (k ≤ used) × (to ≤ k) × 
 abbrev μ-loop : tie.MeasureT-loop
 μ-loop now ms used out₀ to₀ k₀ out to k = used - k
 
--- src/rules.rt:99:16
-cast-used : tie.Need-cast-used Inv-loop μ-loop
-cast-used c = search needs
-
--- src/rules.rt:100:9
-unused-requires : tie.Need-unused-requires Inv-loop μ-loop
-unused-requires c κs = search needs
-
--- src/rules.rt:103:5
 loop-holds : tie.Need-loop-holds Inv-loop μ-loop
 loop-holds c = (search needs, search needs, refl, rw (c .unused .ensures) (kept-none _ _ _))
 
--- src/rules.rt:104:17
-mul-m : tie.Need-mul-m Inv-loop μ-loop
-mul-m c = search needs
-
--- src/rules.rt:104:17
-array-copy-out-m : tie.Need-array-copy-out-m Inv-loop μ-loop
-array-copy-out-m c = search needs
-
--- src/rules.rt:106:13
-mul-out : tie.Need-mul-out Inv-loop μ-loop
-mul-out c = search needs
-
--- src/rules.rt:106:13
-array-set-from-out : tie.Need-array-set-from-out Inv-loop μ-loop
-array-set-from-out c = search needs
-
--- src/rules.rt:107:13
-add-to : tie.Need-add-to Inv-loop μ-loop
-add-to c = search needs
-
--- src/rules.rt:103:9
-add-k : tie.Need-add-k Inv-loop μ-loop
-add-k c = search needs
-
--- src/rules.rt:103:5
-loop-less : tie.Need-loop-less Inv-loop μ-loop
-loop-less c = search needs
-
--- src/rules.rt:103:5
 loop-again : tie.Need-loop-again Inv-loop μ-loop
 loop-again c =
     let i = c .before .before .before .before .loop .inv in
@@ -72,11 +31,6 @@ loop-again c =
     (λ w. (search needs, omega (arith, w .2, i .1), ap length (w .1) ∙ i .2, kept-leaves (i .3) (goes (a .now) m (w .0 .left)) (w .1) (w .2)))
     (c .if1 .came)
 
--- src/rules.rt:111:15
-cast-t18 : tie.Need-cast-t18 Inv-loop μ-loop
-cast-t18 c = search needs
-
--- src/rules.rt:94:1
 returns : tie.Need-returns Inv-loop μ-loop
 returns c =
     let l = c .before .before .before .before .before .args .l in
@@ -89,16 +43,16 @@ kept-spec =
     (tie.spec
     Inv-loop
     μ-loop
-    cast-used
-    unused-requires
+    (λ c. search needs)
+    (λ c κs. search needs)
     loop-holds
-    mul-m
-    array-copy-out-m
-    mul-out
-    array-set-from-out
-    add-to
-    add-k
-    loop-less
+    (λ c. search needs)
+    (λ c. search needs)
+    (λ c. search needs)
+    (λ c. search needs)
+    (λ c. search needs)
+    (λ c. search needs)
+    (λ c. search needs)
     loop-again
-    cast-t18
+    (λ c. search needs)
     returns)

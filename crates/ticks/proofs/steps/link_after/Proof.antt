@@ -1,4 +1,4 @@
--- The function rules::link_after meets its contract.
+-- The function steps::link_after meets its contract.
 use Rattle.lists.proofs.Bools.{cond-yes, cond-no}
 use Rattle.ticks.proofs.Turns.{holding-room, holding-more}
 use Rattle.ticks.specs.Sending.{sentOver}
@@ -11,22 +11,9 @@ use Prim.Native.Nat.{_+_, _≤_}
 use mathlib.Core.List.{[], _∷_, _++_, append-nil}
 use mathlib.Core.Path.{_≡_, sym, ap, subst, _∙_}
 use borrow.Author.Needs.{needs}
-use Rattle.ticks.proofs.rules.link_after.Statement.{statement}
-use Rattle.ticks.proofs.rules.link_after.Tie as tie
-use Rattle.ticks.proofs.rules.link_after.Reads as reads
-use Rattle.ticks.proofs.rules.link_after.Lts as lts
-use Rattle.ticks.proofs.rules.kept.Reads as kept-reads
-use Rattle.ticks.proofs.rules.with_message.Reads as with-message-reads
+use Rattle.ticks.proofs.steps.link_after.Statement.{statement}
+use Rattle.ticks.proofs.steps.link_after.Tie as tie
 
--- src/rules.rt:135:9
-kept-requires : tie.Need-kept-requires
-kept-requires c κs = search needs
-
--- src/rules.rt:139:18
-add-t12 : tie.Need-add-t12
-add-t12 c = search needs
-
--- src/rules.rt:142:9
 with-message-requires : tie.Need-with-message-requires
 with-message-requires c κs =
     let a = c .before .before .args in
@@ -36,7 +23,6 @@ with-message-requires c κs =
     let room : length (ms ++ (m ∷ [])) ≤ 4 = subst (λ l. length (ms ++ l) ≤ 4) e (c .before .before .pre .2) in
     rw (c .before .kept .ensures) (holding-room ms m room)
 
--- src/rules.rt:142:9
 returns : tie.Need-returns
 returns c =
     let a = c .before .before .before .args in
@@ -49,7 +35,6 @@ returns c =
     ∙ holding-more ms m room
     ∙ ap (λ l. holding (ms ++ l)) (sym e)
 
--- src/rules.rt:131:1
 returns-2 : tie.Need-returns-2
 returns-2 c =
     let a = c .before .before .args in
@@ -58,4 +43,4 @@ returns-2 c =
 
 pub link-after-spec : {M : Type 1} → statement M
 link-after-spec =
-    tie.close (tie.spec kept-requires add-t12 with-message-requires returns returns-2)
+    tie.close (tie.spec (λ c κs. search needs) (λ c. search needs) with-message-requires returns returns-2)
