@@ -26,7 +26,21 @@ pub(crate) fn decimal_size(x: u64) -> usize
     if x < 10 { 1 } else { decimal_size(x / 10) + 1 }
 }
 
-// Writes a number in decimal digits.
+// Writes a number in decimal digits, the last one after the others.
+fn put_digits(x: u64, buffer: &mut [u8]) -> usize
+    requires { ⌜ length (decimal x) ≤ length (now buffer) ⌝ }
+    ensures { λ r. ⌜ Wrote (decimal x) (now (buffer .entry)) r (now (buffer .exit)) ⌝ }
+{
+    if x < 10 {
+        buffer[0] = b'0' + x as u8;
+        return 1;
+    }
+    let at = put_digits(x / 10, buffer);
+    buffer[at] = b'0' + (x % 10) as u8;
+    at + 1
+}
+
+// Writes a number in decimal digits. Most numbers of a listing have one, which needs no call.
 pub(crate) fn put_decimal(x: u64, buffer: &mut [u8]) -> usize
     requires { ⌜ length (decimal x) ≤ length (now buffer) ⌝ }
     ensures { λ r. ⌜ Wrote (decimal x) (now (buffer .entry)) r (now (buffer .exit)) ⌝ }
@@ -35,9 +49,7 @@ pub(crate) fn put_decimal(x: u64, buffer: &mut [u8]) -> usize
         buffer[0] = b'0' + x as u8;
         return 1;
     }
-    let at = put_decimal(x / 10, buffer);
-    buffer[at] = b'0' + (x % 10) as u8;
-    at + 1
+    put_digits(x, buffer)
 }
 
 // Writes a word and a number after it.

@@ -1,2 +1,2 @@
--- What the program does at each stop.
-pub mod Stops
+-- What the program prints at each stop.
+pub mod Printed

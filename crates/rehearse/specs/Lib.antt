@@ -1,2 +1,2 @@
 -- What the program prints.
-pub mod Pieces
+pub mod Stops

@@ -6,7 +6,7 @@ use libc::STDERR_FILENO;
 
 mod input;
 mod output;
-mod piece;
+mod stop;
 
 fn main() {
     let mut space = [0u8; 65537];

@@ -1,8 +1,10 @@
-// All that is printed for a schedule, piece after piece.
-use crate::piece::next_piece;
+// All that is printed for a schedule: what is printed at each of its stops, in order.
+use crate::stop::is_report;
+use crate::stop::write_stop;
 use commands::rules::fresh;
 use libc::STDOUT_FILENO;
 use listing::ending::write_end;
+use simulator::rules::go_on;
 
 // Prints what a schedule gives, from the fresh system; answers whether all of it was written.
 pub fn rehearse(bytes: &[u8]) -> bool {
@@ -14,14 +16,16 @@ pub fn rehearse(bytes: &[u8]) -> bool {
     let mut s = fresh();
     let mut at = 0;
     loop {
-        let piece = next_piece(s, at, bytes, &mut buffer);
-        s = piece.system;
-        at = piece.at;
-        if !io::write_all(STDOUT_FILENO, &buffer[..piece.size]) {
+        let r = go_on(s, at, bytes);
+        let size = write_stop(r, &mut buffer);
+        if !io::write_all(STDOUT_FILENO, &buffer[..size]) {
             return false;
         }
-        if !piece.more {
+        let stop = r.stop;
+        if !is_report(stop) {
             return true;
         }
+        s = r.system;
+        at = r.at;
     }
 }

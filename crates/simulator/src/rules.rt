@@ -62,10 +62,21 @@ pub fn go_on(s: System, at: usize, bytes: &[u8]) -> Onward
     let mut state = s;
     let mut place = at;
     while place < bytes.len() {
-        let reports = bytes[place] == 7;
+        // an accepted report changes nothing
+        if (bytes[place] == 7) & state.ready {
+            return Onward {
+                stop: Stop::Report,
+                at: place + 1,
+                system: state,
+            };
+        }
         let c = step(state, &bytes[place..]);
         let answer = c.answer;
         match answer {
+            Answer::Done(size) => {
+                state = c.system;
+                place += size;
+            }
             Answer::Refused(why) => {
                 return Onward {
                     stop: Stop::Refused(why),
@@ -73,17 +84,6 @@ pub fn go_on(s: System, at: usize, bytes: &[u8]) -> Onward
                     system: state,
                 };
             }
-            Answer::Done(size) => {
-                state = c.system;
-                place += size;
-            }
-        }
-        if reports {
-            return Onward {
-                stop: Stop::Report,
-                at: place,
-                system: state,
-            };
         }
     }
     Onward {
