@@ -8,10 +8,11 @@ use native.Mathlib.Omega.{arith}
 use lib.Dec.{ltb, eqb}
 use lib.ListN.{length, getD, set, take}
 use lib.Seq.{getD-set-same}
-use borrow.Author.Tests.{le-ltb, eq-eqb, ne-eqb}
+use borrow.Author.Count.{below-more}
+use borrow.Author.Tests.{le-ltb, eq-eqb, ne-eqb, eqb-false, not-true}
 use Rattle.lists.specs.Entries.{firsts}
 use Rattle.lists.specs.Test.{allTo}
-use Rattle.lists.proofs.Bools.{cond-yes, cond-no}
+use Rattle.lists.proofs.Bools.{both, cond-yes, cond-no}
 use Rattle.lists.proofs.Entries.{firsts-zero, firsts-turn, firsts-beyond, firsts-idle, length-firsts}
 use Rattle.station.specs.Fit.{lastTick}
 use Rattle.station.specs.Rules.{slotted}
@@ -98,14 +99,6 @@ part-none first n now m until f =
       calm-links = λ t j a b h. absurd (omega arith);
     }
 
--- one place more
-one-more : {P : ℕ → Type 0} (k : ℕ) → ((j : ℕ) → j < k → P j) → P k → (j : ℕ) → j < k + 1 → P j
-one-more {P} k below here j h = go (decLt j k)
-  where
-    go : Dec (j < k) → P j
-    go (yes l) = below j l
-    go (no l) = let e : k ≡ j = omega arith in subst P e here
-
 -- a link with no message has none due
 calm-empty : (t : ℕ) (l : Link) → l .used ≡ 0 → quietLink t l ≡ true
 unfolding quietLink allTo
@@ -152,13 +145,13 @@ module _ (first : Bool) (n now : ℕ) (m : System) (until : ℕ) (s : System) (p
       let z : p + 0 ≡ p = omega arith in
       ap (λ (x : System). getD (x .sent) p 0) (a .same) ∙ rw z at (firsts-beyond p 0 (sentAfter now m) (m .sent) 0)
 
-  pub part-link : getD (s .links) k noLink ≡ getD (m .links) k noLink
+  part-link : getD (s .links) k noLink ≡ getD (m .links) k noLink
   unfolding sentTo
   part-link =
       let z : k + 0 ≡ k = omega arith in
       ap (λ (x : System). getD (x .links) k noLink) (a .same) ∙ rw z at (firsts-beyond k 0 (linkAfter n now m) (m .links) noLink)
 
-  pub part-delays : s .delays ≡ m .delays
+  part-delays : s .delays ≡ m .delays
   unfolding sentTo
   part-delays = ap (λ (x : System). x .delays) (a .same)
 
@@ -171,7 +164,7 @@ module _ (first : Bool) (n now : ℕ) (m : System) (until : ℕ) (s : System) (p
   part-period = ap (λ (x : System). x .period) (a .same)
 
   -- a link is stored
-  pub part-stores : (until′ : ℕ) (v : Link) → k < 64 → until′ ≤ until → v ≡ linkAfter n now m k → ((t : ℕ) → now < t → t ≤ until′ → quietLink t v ≡ true)
+  part-stores : (until′ : ℕ) (v : Link) → k < 64 → until′ ≤ until → v ≡ linkAfter n now m k → ((t : ℕ) → now < t → t ≤ until′ → quietLink t v ≡ true)
       → Part first n now m until′ (withLinks (set (s .links) k v) s) p (k + 1)
   unfolding sentTo
   part-stores until′ v h le e calm =
@@ -181,11 +174,11 @@ module _ (first : Bool) (n now : ℕ) (m : System) (until : ℕ) (s : System) (p
             ap (λ (x : System). withLinks (set (x .links) k v) x) (a .same)
             ∙ ap (λ ls. withLinks ls (sentTo n now m p k)) (firsts-turn k (linkAfter n now m) (m .links) (firsts k (linkAfter n now m) (m .links)) v (omega (arith, a .mid .links-long)) refl e);
         calm-stations = λ t j b c. a .calm-stations t j b (omega arith);
-        calm-links = λ t j b c. one-more {P = λ j. quietLink t (linkAfter n now m j) ≡ true} k (λ i. a .calm-links t i b (omega arith)) (subst (λ l. quietLink t l ≡ true) e (calm t b c)) j;
+        calm-links = λ t j b c. below-more (λ j. quietLink t (linkAfter n now m j) ≡ true) k (λ i. a .calm-links t i b (omega arith)) (subst (λ l. quietLink t l ≡ true) e (calm t b c)) j;
       }
 
   -- links stay as they are
-  pub part-leaves : (j : ℕ) → k ≤ j → j ≤ 64 → ((i : ℕ) → k ≤ i → i < j → (linkAfter n now m i ≡ getD (m .links) i noLink) × (getD (m .links) i noLink .used ≡ 0))
+  part-leaves : (j : ℕ) → k ≤ j → j ≤ 64 → ((i : ℕ) → k ≤ i → i < j → (linkAfter n now m i ≡ getD (m .links) i noLink) × (getD (m .links) i noLink .used ≡ 0))
       → Part first n now m until s p j
   unfolding sentTo
   part-leaves j le h f =
@@ -213,7 +206,7 @@ module _ (first : Bool) (n now : ℕ) (m : System) (until : ℕ) (s : System) (p
             i ∙ ap (λ (z : System). withSender (set (z .stations) p x) (set (z .sent) p c) z) (a .same)
             ∙ ap (λ xs. withSender xs (set (firsts p (sentAfter now m) (m .sent)) p c) (sentTo n now m p k)) (firsts-turn p (stationAfter now m) (m .stations) (firsts p (stationAfter now m) (m .stations)) x (omega (arith, a .mid .stations-long)) refl e)
             ∙ ap (λ cs. withSender (firsts (p + 1) (stationAfter now m) (m .stations)) cs (sentTo n now m p k)) (firsts-turn p (sentAfter now m) (m .sent) (firsts p (sentAfter now m) (m .sent)) c (omega (arith, a .mid .sent-long)) refl g);
-        calm-stations = λ t j b d. one-more {P = λ j. quietStation t (stationAfter now m j) ≡ true} p (λ i. a .calm-stations t i b (omega arith)) (subst (λ z. quietStation t z ≡ true) (there ∙ e) (calm t b d)) j;
+        calm-stations = λ t j b d. below-more (λ j. quietStation t (stationAfter now m j) ≡ true) p (λ i. a .calm-stations t i b (omega arith)) (subst (λ z. quietStation t z ≡ true) (there ∙ e) (calm t b d)) j;
         calm-links = λ t j b d. a .calm-links t j b (omega arith);
       }
     where
@@ -221,6 +214,10 @@ module _ (first : Bool) (n now : ℕ) (m : System) (until : ℕ) (s : System) (p
       there =
           ap (λ (z : System). getD (z .stations) p noStation) i
           ∙ getD-set-same (s .stations) p x noStation (rw (a .same) (omega (arith, length-firsts p (stationAfter now m) (m .stations) (omega (arith, a .mid .stations-long)), a .mid .stations-long)))
+
+-- what the code's test says of two places
+pub differ : (p q : ℕ) (test : Bool) → (not (eqb p q) && test) ≡ true → p ≡ q → ⊥
+differ p q test e = eqb-false p q (not-true (eqb p q) (both (not (eqb p q)) test e .0))
 
 -- places with no link
 module _ (n k : ℕ) where
@@ -261,48 +258,37 @@ module _ (first : Bool) (n now : ℕ) (m : System) (until : ℕ) (s : System) (p
     self : p ≡ q → isLink n (from (8 * p + q)) (to (8 * p + q)) ≡ false
     self e = rw (sender, receiver) (subst (λ x. isLink n (p + 1) (x + 1) ≡ false) e (no-self n (p + 1)))
 
-    link-after-is : cond (eqb p q) (getD (m .links) (8 * p + q) noLink) (newLink now m p (8 * p + q)) ≡ linkAfter n now m (8 * p + q)
-    unfolding linkAfter
-    link-after-is = at (ℕ-discrete p q)
-      where
-        at : Dec (p ≡ q) → cond (eqb p q) (getD (m .links) (8 * p + q) noLink) (newLink now m p (8 * p + q)) ≡ cond (isLink n (from (8 * p + q)) (to (8 * p + q))) (newLink now m ((8 * p + q) / 8) (8 * p + q)) (getD (m .links) (8 * p + q) noLink)
-        at (yes e) =
-            ap (λ b. cond b (getD (m .links) (8 * p + q) noLink) (newLink now m p (8 * p + q))) (eq-eqb p q e)
-            ∙ sym (ap (λ b. cond b (newLink now m ((8 * p + q) / 8) (8 * p + q)) (getD (m .links) (8 * p + q) noLink)) (self e))
-        at (no ne) =
-            ap (λ b. cond b (getD (m .links) (8 * p + q) noLink) (newLink now m p (8 * p + q))) (ne-eqb p q ne)
-            ∙ ap (λ r. newLink now m r (8 * p + q)) (sym row)
-            ∙ sym (ap (λ b. cond b (newLink now m ((8 * p + q) / 8) (8 * p + q)) (getD (m .links) (8 * p + q) noLink)) (linked ne))
+    -- where two stations differ, the new link: what it is given, what it is, its size
+    module _ (ne : p ≡ q → ⊥) where
+      new-is : newLink now m p (8 * p + q) ≡ linkAfter n now m (8 * p + q)
+      unfolding linkAfter
+      new-is =
+          ap (λ r. newLink now m r (8 * p + q)) (sym row)
+          ∙ sym (ap (λ b. cond b (newLink now m ((8 * p + q) / 8) (8 * p + q)) (getD (m .links) (8 * p + q) noLink)) (linked ne))
 
-    -- what the new link is given, and its size
-    pub link-ready : (sends : Bool) (counts : List ℕ) → sends ≡ sendsAt now m p → counts ≡ getD (m .stations) p noStation .recovered
-        → ((getD (s .links) (8 * p + q) noLink .used ≤ 4) × (now ≤ lastTick))
-        × ((p ≡ q → ⊥) → length (later now (messages (getD (s .links) (8 * p + q) noLink)) ++ sentOver now sends (getD (s .delays) (8 * p + q) 0) counts) ≤ 4)
-    link-ready sends counts e f =
-        rw (part-link first n now m until s p (8 * p + q) a, part-delays first n now m until s p (8 * p + q) a, e, f)
-        ((a .mid .few-used p q hp hq, a .mid .early), a .mid .room p q hp hq)
+      pub link-ready : (sends : Bool) (counts : List ℕ) → sends ≡ sendsAt now m p → counts ≡ getD (m .stations) p noStation .recovered
+          → (getD (s .links) (8 * p + q) noLink .used ≤ 4) × (now ≤ lastTick)
+          × (length (later now (messages (getD (s .links) (8 * p + q) noLink)) ++ sentOver now sends (getD (s .delays) (8 * p + q) 0) counts) ≤ 4)
+      link-ready sends counts e f =
+          rw (part-link first n now m until s p (8 * p + q) a, part-delays first n now m until s p (8 * p + q) a, e, f)
+          (a .mid .few-used p q hp hq, a .mid .early, a .mid .room p q hp hq ne)
 
-    pub after-few : linkAfter n now m (8 * p + q) .used ≤ 4
-    unfolding holding
-    after-few = subst (λ (l : Link). l .used ≤ 4) link-after-is (at (ℕ-discrete p q))
-      where
-        at : Dec (p ≡ q) → cond (eqb p q) (getD (m .links) (8 * p + q) noLink) (newLink now m p (8 * p + q)) .used ≤ 4
-        at (yes e) = rw (eq-eqb p q e) (a .mid .few-used p q hp hq)
-        at (no ne) = rw (ne-eqb p q ne) (a .mid .room p q hp hq ne)
+      pub stored-is : (sends : Bool) (counts : List ℕ) (v : Link) → sends ≡ sendsAt now m p → counts ≡ getD (m .stations) p noStation .recovered
+          → v ≡ holding (later now (messages (getD (s .links) (8 * p + q) noLink)) ++ sentOver now sends (getD (s .delays) (8 * p + q) 0) counts)
+          → v ≡ linkAfter n now m (8 * p + q)
+      stored-is sends counts v e f g =
+          g ∙ ap (λ l. holding (later now (messages l) ++ sentOver now sends (getD (s .delays) (8 * p + q) 0) counts)) (part-link first n now m until s p (8 * p + q) a)
+          ∙ ap (λ (d : List ℕ). holding (later now (messages old) ++ sentOver now sends (getD d (8 * p + q) 0) counts)) (part-delays first n now m until s p (8 * p + q) a)
+          ∙ ap (λ b. holding (later now (messages old) ++ sentOver now b (getD (m .delays) (8 * p + q) 0) counts)) e
+          ∙ ap (λ c. holding (later now (messages old) ++ sentOver now (sendsAt now m p) (getD (m .delays) (8 * p + q) 0) c)) f
+          ∙ new-is
+        where
+          old : Link
+          old = getD (m .links) (8 * p + q) noLink
 
-    -- the link that the code stores
-    pub stored-is : (sends : Bool) (counts : List ℕ) (v : Link) → sends ≡ sendsAt now m p → counts ≡ getD (m .stations) p noStation .recovered
-        → v ≡ cond (eqb p q) (getD (s .links) (8 * p + q) noLink) (holding (later now (messages (getD (s .links) (8 * p + q) noLink)) ++ sentOver now sends (getD (s .delays) (8 * p + q) 0) counts))
-        → v ≡ linkAfter n now m (8 * p + q)
-    stored-is sends counts v e f g =
-        g ∙ ap (λ l. cond (eqb p q) l (holding (later now (messages l) ++ sentOver now sends (getD (s .delays) (8 * p + q) 0) counts))) (part-link first n now m until s p (8 * p + q) a)
-        ∙ ap (λ (d : List ℕ). cond (eqb p q) old (holding (later now (messages old) ++ sentOver now sends (getD d (8 * p + q) 0) counts))) (part-delays first n now m until s p (8 * p + q) a)
-        ∙ ap (λ b. cond (eqb p q) old (holding (later now (messages old) ++ sentOver now b (getD (m .delays) (8 * p + q) 0) counts))) e
-        ∙ ap (λ c. cond (eqb p q) old (holding (later now (messages old) ++ sentOver now (sendsAt now m p) (getD (m .delays) (8 * p + q) 0) c))) f
-        ∙ link-after-is
-      where
-        old : Link
-        old = getD (m .links) (8 * p + q) noLink
+      pub after-few : linkAfter n now m (8 * p + q) .used ≤ 4
+      unfolding holding
+      after-few = subst (λ (l : Link). l .used ≤ 4) new-is (a .mid .room p q hp hq ne)
 
     pub part-next : (until′ u : ℕ) (v : Link) (y : System) → v ≡ linkAfter n now m (8 * p + q) → y ≡ withLinks (set (s .links) (8 * p + q) v) s → u ≡ until′ → until′ ≤ until
         → ((t : ℕ) → now < t → t ≤ until′ → quietLink t v ≡ true) → Part first n now m u y p (8 * p + (q + 1))
@@ -310,27 +296,29 @@ module _ (first : Bool) (n now : ℕ) (m : System) (until : ℕ) (s : System) (p
         let z : 8 * p + (q + 1) ≡ 8 * p + q + 1 = omega arith in
         rw (i, j, z) (part-stores first n now m until s p (8 * p + q) a until′ v (omega (arith, a .mid .n-high)) le e calm)
 
-    -- an empty link that gets no message
-    pub part-skips : first ≡ false → sendsAt now m p ≡ false → getD (s .links) (8 * p + q) noLink .used ≡ 0 → Part first n now m until s p (8 * p + (q + 1))
+    -- a place with no link, or an empty link that gets no message
+    pub part-skips : (test : Bool) → (not (eqb p q) && test) ≡ false → (test ≡ false → (first ≡ false) × (sendsAt now m p ≡ false) × (getD (s .links) (8 * p + q) noLink .used ≡ 0))
+        → Part first n now m until s p (8 * p + (q + 1))
     unfolding messages later
-    part-skips f e z =
+    part-skips test f idle =
         part-leaves first n now m until s p (8 * p + q) a (8 * p + (q + 1)) (omega arith) (omega (arith, a .mid .n-high))
-        (λ i b c. (let h : 8 * p + q ≡ i = omega arith in subst (λ i. (linkAfter n now m i ≡ getD (m .links) i noLink) × (getD (m .links) i noLink .used ≡ 0)) h (sym link-after-is ∙ at (ℕ-discrete p q), none)))
+        (λ i b c. (let h : 8 * p + q ≡ i = omega arith in subst (λ i. (linkAfter n now m i ≡ getD (m .links) i noLink) × (getD (m .links) i noLink .used ≡ 0)) h (at (ℕ-discrete p q))))
       where
         old : Link
         old = getD (m .links) (8 * p + q) noLink
 
-        none : old .used ≡ 0
-        none = ap (λ (l : Link). l .used) (sym (part-link first n now m until s p (8 * p + q) a)) ∙ z
-
-        at : Dec (p ≡ q) → cond (eqb p q) old (newLink now m p (8 * p + q)) ≡ old
-        at (yes d) = ap (λ b. cond b old (newLink now m p (8 * p + q))) (eq-eqb p q d)
+        at : Dec (p ≡ q) → (linkAfter n now m (8 * p + q) ≡ old) × (old .used ≡ 0)
+        at (yes e) = (unlinked n now m (8 * p + q) (self e), a .mid .empty (8 * p + q) (omega (arith, a .mid .n-high)) (self e))
         at (no ne) =
-            ap (λ b. cond b old (newLink now m p (8 * p + q))) (ne-eqb p q ne)
-            ∙ ap (λ b. holding (later now (messages old) ++ sentOver now b (getD (m .delays) (8 * p + q) 0) (getD (m .stations) p noStation .recovered))) e
-            ∙ ap (λ u. holding (later now (take u (old .messages)) ++ [])) none
-            ∙ ap (λ u. holding (take u (old .messages))) (sym none)
-            ∙ a .mid .held f (8 * p + q) (omega (arith, a .mid .n-high)) (linked ne)
+            let (again, silent, z) = idle (ap (λ b. not b && test) (sym (ne-eqb p q ne)) ∙ f) in
+            let none : old .used ≡ 0 = ap (λ (l : Link). l .used) (sym (part-link first n now m until s p (8 * p + q) a)) ∙ z in (
+              sym (new-is ne)
+                  ∙ ap (λ b. holding (later now (messages old) ++ sentOver now b (getD (m .delays) (8 * p + q) 0) (getD (m .stations) p noStation .recovered))) silent
+                  ∙ ap (λ u. holding (later now (take u (old .messages)) ++ [])) none
+                  ∙ ap (λ u. holding (take u (old .messages))) (sym none)
+                  ∙ a .mid .held again (8 * p + q) (omega (arith, a .mid .n-high)) (linked ne),
+              none,
+            )
 
 -- the sender's station after its send chance
 module _ (first : Bool) (n now : ℕ) (m : System) (until : ℕ) (s : System) (p k : ℕ) (a : Part first n now m until s p k) where

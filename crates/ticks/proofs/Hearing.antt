@@ -73,11 +73,11 @@ module _ (s : System) (p q : ℕ) where
   unfolding heardFrom now-at all-heard
   heard-is = hears-all (p + 1) (s .tick + 1) (λ j. underway s j (p + 1)) (getD (s .stations) p noStation) q
 
-  pub heardFrom-up : heardFrom s p q .up ≡ getD (s .stations) p noStation .up
+  heardFrom-up : heardFrom s p q .up ≡ getD (s .stations) p noStation .up
   unfolding now-at all-heard
   heardFrom-up = rw heard-is (cond-elim (λ (y : Station). y .up ≡ now-at .up) (now-at .up) (λ u. heardAll-unchanged q (p + 1) (s .tick + 1) (λ j. underway s j (p + 1)) now-at .up) (λ u. refl))
 
-  pub heardFrom-timeouts : heardFrom s p q .timeouts ≡ getD (s .stations) p noStation .timeouts
+  heardFrom-timeouts : heardFrom s p q .timeouts ≡ getD (s .stations) p noStation .timeouts
   unfolding now-at all-heard
   heardFrom-timeouts = rw heard-is (cond-elim (λ (y : Station). y .timeouts ≡ now-at .timeouts) (now-at .up) (λ u. heardAll-timeouts q (p + 1) (s .tick + 1) (λ j. underway s j (p + 1)) now-at) (λ u. refl))
 
@@ -130,7 +130,7 @@ module _ (s r : System) (p q : ℕ) (e : r ≡ hearing s p q) where
       ap (λ (z : System). messages (getD (z .links) (8 * q + p) noLink)) e ∙ rw (a, b)
 
   module _ (h : p < length (s .stations)) where
-    pub hearing-at : getD (r .stations) p noStation ≡ heardFrom s p q
+    hearing-at : getD (r .stations) p noStation ≡ heardFrom s p q
     hearing-at = ap (λ (z : System). getD (z .stations) p noStation) e ∙ getD-set-same (s .stations) p (heardFrom s p q) noStation h
 
     pub hearing-turn : (now : ℕ) (v : Station) → now ≡ s .tick + 1 → v ≡ hears (p + 1) (q + 1) now (messages (getD (r .links) (8 * q + p) noLink)) (getD (r .stations) p noStation)

@@ -61,11 +61,11 @@ module _ (s : System) (t : Ticking s) where
   pub is : Sound s
   is = sound-of s (t .is-sound) (t .is-ready)
 
-  pub timeouts-low : (p q : ℕ) → In (s .n) p → In (s .n) q → entry (station s p .timeouts) q ≤ longest lastTick
+  timeouts-low : (p q : ℕ) → In (s .n) p → In (s .n) q → entry (station s p .timeouts) q ≤ longest lastTick
   timeouts-low p q ip iq = fit-timeouts p (s .n) (s .period) (s .tick) (station s p) (is .tick-high) (is .fits p ip) (q - 1) (omega (arith, iq .low, iq .high, is .n-high))
 
   -- a link of the system has at most four messages
-  pub few-used : (q p : ℕ) → In (s .n) q → In (s .n) p → getD (s .links) (place q p) noLink .used ≤ 4
+  few-used : (q p : ℕ) → In (s .n) q → In (s .n) p → getD (s .links) (place q p) noLink .used ≤ 4
   few-used q p iq ip = go (ℕ-discrete q p)
     where
       go : Dec (q ≡ p) → getD (s .links) (place q p) noLink .used ≤ 4
@@ -76,7 +76,7 @@ module _ (s : System) (t : Ticking s) where
           rw e (omega arith)
 
   -- a timer that is due after (a) can end
-  pub timer-safe : (p : ℕ) → In (s .n) p → station s p .up ≡ true → (x : Station) → x ≡ heardAll (s .n) p (s .tick + 1) (λ q. underway s q p) (station s p)
+  timer-safe : (p : ℕ) → In (s .n) p → station s p .up ≡ true → (x : Station) → x ≡ heardAll (s .n) p (s .tick + 1) (λ q. underway s q p) (station s p)
       → x .timer ≡ s .tick + 1 → (1 ≤ x .leader) × (x .leader ≤ 8) × (entry (x .timeouts) (x .leader) ≤ longest lastTick)
   timer-safe p ip u x e d = expire-safe p (s .n) (s .period) (s .tick + 1) x (during-expires p (s .n) (s .period) (s .tick + 1) x (rw e (heard-timely s is (t .room) p ip u)) d)
 

@@ -10,7 +10,7 @@ ghost use Rattle.ticks.specs.Sending.{Ticking};
 use crate::due::quiet_link;
 use crate::due::quiet_station;
 use crate::steps::heard_link;
-use crate::steps::link_next;
+use crate::steps::link_after;
 use crate::steps::sends_now;
 use crate::steps::sent_next;
 use crate::steps::timer_ends;
@@ -53,8 +53,8 @@ pub fn run(t: u32, mut s: System) -> System
             let sends = sends_now(p as u8 + 1, now, x);
             for q in 0..n {
                 let k = 8 * p + q;
-                if first | sends | (s.links[k].used != 0) {
-                    let l = link_next(p, q, now, sends, s.delays[k], x, s.links[k]);
+                if (p != q) & (first | sends | (s.links[k].used != 0)) {
+                    let l = link_after(now, sends, s.delays[k], x, s.links[k]);
                     until = quiet_link(now, l, until);
                     s.links[k] = l;
                 }

@@ -3,7 +3,6 @@ ghost use mathlib.Core.Path.{_≡_};
 ghost use mathlib.Core.List.{_++_};
 ghost use mathlib.Core.Bool.{cond};
 ghost use Prim.Native.Nat.{_+_, _-_, _<_, _≤_};
-ghost use lib.Dec.{eqb};
 ghost use lib.ListN.{length, set};
 ghost use Rattle.station.specs.Order.{entry};
 ghost use Rattle.station.specs.Fit.{lastTick, longest};
@@ -94,13 +93,14 @@ fn with_message(l: Link, m: Message) -> Link
     }
 }
 
-// The link after a tick: what is not due now, and the new message, unless the link is cut.
-fn link_after(now: u32, sends: bool, delay: u8, counts: [u16; 8], l: Link) -> Link
-    requires { ⌜ (l .used ≤ 4) × (now ≤ lastTick) × (length (later now (messages l) ++ sentOver now sends delay counts) ≤ 4) ⌝ }
-    ensures { λ r. ⌜ r ≡ holding (later now (messages l) ++ sentOver now sends delay counts) ⌝ }
+// The link from the station x after a tick: what is not due now, and the new message, unless the link is cut.
+pub fn link_after(now: u32, sends: bool, delay: u8, x: Station, l: Link) -> Link
+    requires { ⌜ (l .used ≤ 4) × (now ≤ lastTick) × (length (later now (messages l) ++ sentOver now sends delay (x .recovered)) ≤ 4) ⌝ }
+    ensures { λ r. ⌜ r ≡ holding (later now (messages l) ++ sentOver now sends delay (x .recovered)) ⌝ }
 {
     let k = kept(now, l);
     if sends & !(delay == 0) {
+        let counts = x.recovered;
         let m = Message {
             sent: now,
             due: now + delay as u32,
@@ -116,19 +116,6 @@ pub fn sends_now(me: u8, now: u32, x: Station) -> bool
     ensures { λ r. ⌜ r ≡ sendsNow me now x ⌝ }
 {
     x.up & (x.slot == now) & (x.leader == me)
-}
-
-// The link from the station x at place p to place q after the tick; nothing changes where they are one.
-pub fn link_next(p: usize, q: usize, now: u32, sends: bool, delay: u8, x: Station, l: Link) -> Link
-    requires { ⌜ (l .used ≤ 4) × (now ≤ lastTick) ⌝ }
-    requires { ⌜ ((p ≡ q → ⊥) → length (later now (messages l) ++ sentOver now sends delay (x .recovered)) ≤ 4) ⌝ }
-    ensures { λ r. ⌜ r ≡ cond (eqb p q) l (holding (later now (messages l) ++ sentOver now sends delay (x .recovered))) ⌝ }
-{
-    if p == q {
-        return l;
-    }
-    let counts = x.recovered;
-    link_after(now, sends, delay, counts, l)
 }
 
 // A sent count after the tick.

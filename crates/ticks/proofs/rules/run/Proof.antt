@@ -16,7 +16,7 @@ use Rattle.election.specs.System.{noStation}
 use Rattle.election.specs.declared.System.{System}
 use Rattle.election.proofs.Soundness.{sound-of}
 use Rattle.ticks.specs.Sending.{sendsNow}
-use Rattle.ticks.proofs.After.{Part, withSender, part-none, part-station, part-sent, part-n, part-period, part-sends, part-row, part-next, part-skips, link-ready, after-few, stored-is, slotted-is, unslotted-is, sent-is}
+use Rattle.ticks.proofs.After.{Part, withSender, part-none, part-station, part-sent, part-n, part-period, part-sends, part-row, part-next, part-skips, differ, link-ready, after-few, stored-is, slotted-is, unslotted-is, sent-is}
 use Rattle.ticks.proofs.Hearing.{settledTo, hearing, hearing-first, hearing-turn, hearing-none, settled-none, settled-tick, stations-long, hearing-ready, timer-ready, settled-ends, settled-waits}
 use Rattle.ticks.proofs.Run.{Going, going-first, going-done, going-ticking, going-held, going-on}
 use Rattle.ticks.proofs.Whole.{Full, mid-given, run-tick, run-calm}
@@ -207,8 +207,8 @@ loop5-holds c =
     let z : 8 * c .before .before .before .loop4 .p + 0 ≡ 8 * c .before .before .before .loop4 .p = omega arith in
     (search needs, i .1, i .2, λ m a. rw z a)
 
-link-next-requires :
-    tie.Need-link-next-requires
+link-after-requires :
+    tie.Need-link-after-requires
     Inv-loop3
     μ-loop3
     Inv-loop2
@@ -219,7 +219,7 @@ link-next-requires :
     μ-loop4
     Inv-loop
     μ-loop
-link-next-requires c κs =
+link-after-requires c κs =
     let first = c .before .before .before .before .before .before .before .before .before .before .before .before .loop .first in
     let n = c .before .before .before .before .before .before .before .before .before .before .before .before .before .args .t2 .n in
     let now = c .before .before .before .before .before .before .before .before .before .before .before .before .loop .s .tick + 1 in
@@ -234,7 +234,7 @@ link-next-requires c κs =
     let sends = c .before .before .before .before .before .sends-now .ensures ∙ ap (sendsNow (p + 1) now) here in
     let q = c .before .before .before .before .loop5 .q in
     let hq : q < n = omega arith in
-    link-ready first n now m until x p hp q hq part _ _ sends (ap (λ (z : Station). z .recovered) here)
+    link-ready first n now m until x p hp q hq part (differ _ _ _ (c .before .before .if3 .taken)) _ _ sends (ap (λ (z : Station). z .recovered) here)
 
 quiet-link-requires :
     tie.Need-quiet-link-requires
@@ -263,7 +263,7 @@ quiet-link-requires c κs =
     let sends = c .before .before .before .before .before .before .sends-now .ensures ∙ ap (sendsNow (p + 1) now) here in
     let q = c .before .before .before .before .before .loop5 .q in
     let hq : q < n = omega arith in
-    (c .before .before .before .before .before .loop5 .inv .1, rw (stored-is first n now m until x p hp q hq part _ _ _ sends (ap (λ (z : Station). z .recovered) here) (c .link-next .ensures)) (after-few first n now m until x p hp q hq part))
+    (c .before .before .before .before .before .loop5 .inv .1, rw (stored-is first n now m until x p hp q hq part (differ _ _ _ (c .before .before .before .if3 .taken)) _ _ _ sends (ap (λ (z : Station). z .recovered) here) (c .link-after .ensures)) (after-few first n now m until x p hp q hq part (differ _ _ _ (c .before .before .before .if3 .taken))))
 
 loop5-again :
     tie.Need-loop5-again
@@ -297,18 +297,19 @@ loop5-again c =
       λ m a.
           let here = part-station first n now m _ y p _ a in
           part-next first n now m until x p hp q hq (i .3 m a) _ _ _ _
-          (stored-is first n now m until x p hp q hq (i .3 m a) _ _ _ (c .before .before .before .sends-now .ensures ∙ ap (sendsNow (p + 1) now) here) (ap (λ (z : Station). z .recovered) here) (w .3 .ensures))
+          (stored-is first n now m until x p hp q hq (i .3 m a) (differ _ _ _ (w .0 .taken)) _ _ _ (c .before .before .before .sends-now .ensures ∙ ap (sendsNow (p + 1) now) here) (ap (λ (z : Station). z .recovered) here) (w .3 .ensures))
           (w .5) (w .6) (w .4 .ensures .1) (w .4 .ensures .2),
     ))
-    (λ w.
-    let (either, empty) = neither _ _ (w .0 .left) in
-    let (later, silent) = neither _ _ either in (
+    (λ w. (
       omega arith,
       rw (w .2) (i .1),
       omega (arith, w .2, i .2),
       λ m a.
           rw (w .1, w .2)
-          (part-skips first n now m until x p hp q hq (i .3 m a) later (sym (c .before .before .before .sends-now .ensures ∙ ap (sendsNow (p + 1) now) (part-station first n now m _ y p _ a)) ∙ silent) (eqb-true _ _ (not-false _ empty))),
+          (part-skips first n now m until x p hp q hq (i .3 m a) _ (w .0 .left) (λ f.
+          let (either, empty) = neither _ _ f in
+          let (later, silent) = neither _ _ either in
+          (later, sym (c .before .before .before .sends-now .ensures ∙ ap (sendsNow (p + 1) now) (part-station first n now m _ y p _ a)) ∙ silent, eqb-true _ _ (not-false _ empty)))),
     ))
     (c .if3 .came)
 
@@ -492,7 +493,7 @@ run-spec =
     (λ c. search needs)
     (λ c. search needs)
     (λ c. search needs)
-    link-next-requires
+    link-after-requires
     quiet-link-requires
     (λ c. search needs)
     (λ c. search needs)

@@ -16,22 +16,22 @@ use Rattle.ticks.proofs.steps.link_after.Tie as tie
 
 with-message-requires : tie.Need-with-message-requires
 with-message-requires c κs =
-    let a = c .before .before .args in
+    let a = c .before .before .before .args in
     let ms = later (a .now) (messages (a .l)) in
-    let m : Message = record { sent = a .now; due = a .now + a .delay; counts = a .counts } in
-    let e : sentOver (a .now) (a .sends) (a .delay) (a .counts) ≡ m ∷ [] = cond-yes _ _ (c .if1 .taken) in
-    let room : length (ms ++ (m ∷ [])) ≤ 4 = subst (λ l. length (ms ++ l) ≤ 4) e (c .before .before .pre .2) in
-    rw (c .before .kept .ensures) (holding-room ms m room)
+    let m : Message = record { sent = a .now; due = a .now + a .delay; counts = a .x .recovered } in
+    let e : sentOver (a .now) (a .sends) (a .delay) (a .x .recovered) ≡ m ∷ [] = cond-yes _ _ (c .before .if1 .taken) in
+    let room : length (ms ++ (m ∷ [])) ≤ 4 = subst (λ l. length (ms ++ l) ≤ 4) e (c .before .before .before .pre .2) in
+    rw (c .before .before .kept .ensures) (holding-room ms m room)
 
 returns : tie.Need-returns
 returns c =
-    let a = c .before .before .before .args in
+    let a = c .before .before .before .before .args in
     let ms = later (a .now) (messages (a .l)) in
-    let m : Message = record { sent = a .now; due = a .now + a .delay; counts = a .counts } in
-    let e : sentOver (a .now) (a .sends) (a .delay) (a .counts) ≡ m ∷ [] = cond-yes _ _ (c .before .if1 .taken) in
-    let room : length (ms ++ (m ∷ [])) ≤ 4 = subst (λ l. length (ms ++ l) ≤ 4) e (c .before .before .before .pre .2) in
+    let m : Message = record { sent = a .now; due = a .now + a .delay; counts = a .x .recovered } in
+    let e : sentOver (a .now) (a .sends) (a .delay) (a .x .recovered) ≡ m ∷ [] = cond-yes _ _ (c .before .before .if1 .taken) in
+    let room : length (ms ++ (m ∷ [])) ≤ 4 = subst (λ l. length (ms ++ l) ≤ 4) e (c .before .before .before .before .pre .2) in
     c .with-message .ensures
-    ∙ ap (λ (k : Link). record { used = k .used + 1; messages = set (k .messages) (k .used) m }) (c .before .before .kept .ensures)
+    ∙ ap (λ (k : Link). record { used = k .used + 1; messages = set (k .messages) (k .used) m }) (c .before .before .before .kept .ensures)
     ∙ holding-more ms m room
     ∙ ap (λ l. holding (ms ++ l)) (sym e)
 
