@@ -64,33 +64,31 @@ fn kept(now: u32, l: Link) -> Link
     let ms = l.messages;
     let used = l.used as usize;
     let empty = unused();
-    let mut out = [empty; 4];
+    let mut r = Link {
+        used: 0,
+        messages: [empty; 4],
+    };
     let mut to = 0usize;
     for k in 0..used {
         let m = ms[k];
         if m.due != now {
-            out[to] = m;
+            r.messages[to] = m;
             to += 1;
         }
     }
-    Link {
-        used: to as u8,
-        messages: out,
-    }
+    r.used = to as u8;
+    r
 }
 
 // The link with one message more.
-fn with_message(l: Link, m: Message) -> Link
+fn with_message(mut l: Link, m: Message) -> Link
     requires { ⌜ l .used < 4 ⌝ }
     ensures { λ r. ⌜ r ≡ record { used = l .used + 1; messages = set (l .messages) (l .used) m } ⌝ }
 {
-    let mut ms = l.messages;
     let to = l.used as usize;
-    ms[to] = m;
-    Link {
-        used: l.used + 1,
-        messages: ms,
-    }
+    l.messages[to] = m;
+    l.used = l.used + 1;
+    l
 }
 
 // The link from the station x after a tick: what is not due now, and the new message, unless the link is cut.

@@ -1,22 +1,22 @@
 -- The function steps::kept meets its contract.
-use lib.ListN.{length-set}
-use mathlib.Core.Path.{_≡_, refl, ap, _∙_}
-use mathlib.Core.Logic.{⊎-elim}
-use Prim.Native.Nat.{_-_, _≤_}
-use native.Mathlib.Omega.{arith}
-use lib.ListN.{length, getD, replicate, length-map}
-use Rattle.election.specs.System.{noMessage, unused}
-use Rattle.lists.proofs.Filter.{Kept, kept-none, kept-takes, kept-leaves}
-use Rattle.ticks.proofs.Turns.{staying, entryOf, stays, goes, kept-holds}
+use Rattle.election.specs.declared.Link.{Link}
 use borrow.Author.Needs.{needs}
+use Rattle.ticks.proofs.Turns.{staying, entryOf, stays, goes, kept-holds}
+use Rattle.lists.proofs.Filter.{Kept, kept-none, kept-takes, kept-leaves}
+use Rattle.election.specs.System.{noMessage, unused}
+use lib.ListN.{length, getD, replicate, length-map, length-set}
+use native.Mathlib.Omega.{arith}
+use Prim.Native.Nat.{_-_, _≤_}
+use mathlib.Core.Logic.{⊎-elim}
+use mathlib.Core.Path.{_≡_, refl, ap, _∙_}
 use Rattle.ticks.proofs.steps.kept.Statement.{statement}
 use Rattle.ticks.proofs.steps.kept.Tie as tie
 
 abbrev Inv-loop : tie.InvT-loop
-Inv-loop now ms used out₀ to₀ k₀ out to k = (k ≤ used) × (to ≤ k) × (length out ≡ 4) × Kept k (staying now ms) (entryOf ms) (replicate 4 unused) to out
+Inv-loop now ms used r₀ to₀ k₀ r to k = (k ≤ used) × (to ≤ k) × (length (r .messages) ≡ 4) × Kept k (staying now ms) (entryOf ms) (replicate 4 unused) to (r .messages)
 
 abbrev μ-loop : tie.MeasureT-loop
-μ-loop now ms used out₀ to₀ k₀ out to k = used - k
+μ-loop now ms used r₀ to₀ k₀ r to k = used - k
 
 loop-holds : tie.Need-loop-holds Inv-loop μ-loop
 loop-holds c = (search needs, search needs, refl, rw (c .unused .ensures) (kept-none _ _ _))
@@ -27,8 +27,8 @@ loop-again c =
     let a = c .before .before .before .before .before .before .before .before .args in
     let m = getD (a .l .messages) (c .before .before .before .before .loop .k) noMessage in
     ⊎-elim
-    (λ w. (search needs, omega (arith, w .2, i .1), ap length (w .1) ∙ simp length-set (i .2), kept-takes (i .3) (omega arith) (stays (a .now) m (w .0 .taken)) refl (w .1) (w .2)))
-    (λ w. (search needs, omega (arith, w .2, i .1), ap length (w .1) ∙ i .2, kept-leaves (i .3) (goes (a .now) m (w .0 .left)) (w .1) (w .2)))
+    (λ w. (search needs, omega (arith, w .2, i .1), ap (λ (x : Link). length (x .messages)) (w .1) ∙ simp length-set (i .2), kept-takes (i .3) (omega arith) (stays (a .now) m (w .0 .taken)) refl (ap (λ (x : Link). x .messages) (w .1)) (w .2)))
+    (λ w. (search needs, omega (arith, w .2, i .1), ap (λ (x : Link). length (x .messages)) (w .1) ∙ i .2, kept-leaves (i .3) (goes (a .now) m (w .0 .left)) (ap (λ (x : Link). x .messages) (w .1)) (w .2)))
     (c .if1 .came)
 
 returns : tie.Need-returns Inv-loop μ-loop
