@@ -8,7 +8,6 @@ use election::Refusal;
 use election::System;
 use soundness::sound;
 
-pub mod ending;
 pub mod rules;
 mod sizes;
 mod text;

@@ -15,6 +15,8 @@ use crate::text::put_named;
 use election::System;
 use station::Station;
 
+pub mod ending;
+
 // Writes the count at k, after a comma unless it is the first.
 fn put_count(k: usize, x: u16, buffer: &mut [u8]) -> usize
     requires { ⌜ length (countOf k x) ≤ length (now buffer) ⌝ }

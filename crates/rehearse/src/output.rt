@@ -3,7 +3,7 @@ use crate::stop::is_report;
 use crate::stop::write_stop;
 use commands::rules::fresh;
 use libc::STDOUT_FILENO;
-use listing::ending::write_end;
+use listing::rules::ending::write_end;
 use simulator::rules::go_on;
 
 // Prints what a schedule gives, from the fresh system; answers whether all of it was written.

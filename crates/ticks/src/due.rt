@@ -21,7 +21,7 @@ fn short_of(now: u32, due: u32, end: u32) -> u32
 }
 
 // A tick up to end, with nothing of the station due after now and up to it.
-pub fn quiet_station(now: u32, x: Station, end: u32) -> u32
+pub(crate) fn quiet_station(now: u32, x: Station, end: u32) -> u32
     requires { ⌜ now ≤ end ⌝ }
     ensures { λ r. ⌜ (now ≤ r) × (r ≤ end) × ((t : ℕ) → now < t → t ≤ r → quietStation t x ≡ true) ⌝ }
 {
@@ -29,7 +29,7 @@ pub fn quiet_station(now: u32, x: Station, end: u32) -> u32
 }
 
 // A tick up to end, with no message of the link due after now and up to it.
-pub fn quiet_link(now: u32, l: Link, end: u32) -> u32
+pub(crate) fn quiet_link(now: u32, l: Link, end: u32) -> u32
     requires { ⌜ (now ≤ end) × (l .used ≤ 4) ⌝ }
     ensures { λ r. ⌜ (now ≤ r) × (r ≤ end) × ((t : ℕ) → now < t → t ≤ r → quietLink t l ≡ true) ⌝ }
 {

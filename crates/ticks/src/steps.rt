@@ -16,7 +16,7 @@ use station::rules::hear;
 
 // The station at place p after the messages from place q that are due now, oldest first; a down one is
 // left alone.
-pub fn heard_link(p: usize, q: usize, now: u32, l: Link, x: Station) -> Station
+pub(crate) fn heard_link(p: usize, q: usize, now: u32, l: Link, x: Station) -> Station
     requires { ⌜ (p < 8) × (q < 8) × (l .used ≤ 4) × (now ≤ lastTick) × (entry (x .timeouts) (q + 1) ≤ longest lastTick) ⌝ }
     ensures { λ r. ⌜ r ≡ hears (p + 1) (q + 1) now (messages l) x ⌝ }
 {
@@ -39,7 +39,7 @@ pub fn heard_link(p: usize, q: usize, now: u32, l: Link, x: Station) -> Station
 }
 
 // Whether the timer of an up station is due now.
-pub fn timer_ends(now: u32, x: Station) -> bool
+pub(crate) fn timer_ends(now: u32, x: Station) -> bool
     ensures { λ r. ⌜ r ≡ timerEnds now x ⌝ }
 {
     x.up & (x.timer == now)
@@ -92,7 +92,7 @@ fn with_message(mut l: Link, m: Message) -> Link
 }
 
 // The link from the station x after a tick: what is not due now, and the new message, unless the link is cut.
-pub fn link_after(now: u32, sends: bool, delay: u8, x: Station, l: Link) -> Link
+pub(crate) fn link_after(now: u32, sends: bool, delay: u8, x: Station, l: Link) -> Link
     requires { ⌜ (l .used ≤ 4) × (now ≤ lastTick) × (length (later now (messages l) ++ sentOver now sends delay (x .recovered)) ≤ 4) ⌝ }
     ensures { λ r. ⌜ r ≡ holding (later now (messages l) ++ sentOver now sends delay (x .recovered)) ⌝ }
 {
@@ -110,14 +110,14 @@ pub fn link_after(now: u32, sends: bool, delay: u8, x: Station, l: Link) -> Link
 }
 
 // Whether a station that has settled sends LEADER in this tick.
-pub fn sends_now(me: u8, now: u32, x: Station) -> bool
+pub(crate) fn sends_now(me: u8, now: u32, x: Station) -> bool
     ensures { λ r. ⌜ r ≡ sendsNow me now x ⌝ }
 {
     x.up & (x.slot == now) & (x.leader == me)
 }
 
 // A sent count after the tick.
-pub fn sent_next(sends: bool, n: u8, sent: u32) -> u32
+pub(crate) fn sent_next(sends: bool, n: u8, sent: u32) -> u32
     requires { ⌜ (1 ≤ n) × (n ≤ 8) × (sent ≤ 7000000) ⌝ }
     ensures { λ r. ⌜ r ≡ cond sends (sent + (n - 1)) sent ⌝ }
 {

@@ -1,8 +1,8 @@
--- The function ending::number_of meets its contract.
+-- The function rules::ending::number_of meets its contract.
 use mathlib.Core.Path.{refl}
 use borrow.Author.Needs.{needs}
-use Rattle.listing.proofs.ending.number_of.Statement.{statement}
-use Rattle.listing.proofs.ending.number_of.Tie as tie
+use Rattle.listing.proofs.rules.ending.number_of.Statement.{statement}
+use Rattle.listing.proofs.rules.ending.number_of.Tie as tie
 
 returns : tie.Need-returns
 returns c = rw (c .enum-told .given .1) refl

@@ -1,4 +1,4 @@
--- The function ending::write_end meets its contract.
+-- The function rules::ending::write_end meets its contract.
 use Rattle.listing.proofs.Parts.{wrote-part, room-first, room-at, room-part, ends-in}
 use Rattle.election.specs.Listing.{decimal, newline, refusedWord, atWord}
 use Prim.Native.Nat.{_≤_}
@@ -8,8 +8,8 @@ use lib.ListN.{length}
 use native.Mathlib.Omega.{arith}
 use mathlib.Core.Path.{sym, ap, subst}
 use borrow.Author.Needs.{needs}
-use Rattle.listing.proofs.ending.write_end.Statement.{statement}
-use Rattle.listing.proofs.ending.write_end.Tie as tie
+use Rattle.listing.proofs.rules.ending.write_end.Statement.{statement}
+use Rattle.listing.proofs.rules.ending.write_end.Tie as tie
 
 put-last-requires : tie.Need-put-last-requires
 put-last-requires c κs = let start = c .before .before .before .before in omega (arith, ap length (end-line (start .args .refusal) (start .args .at) (c .before .before .if1 .taken)), start .pre)
