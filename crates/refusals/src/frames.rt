@@ -4,8 +4,8 @@ ghost use Rattle.frame.specs.Writing.{lengthOf};
 ghost use Rattle.frame.specs.Writing.{refusalOf as writeRefusalOf};
 ghost use Rattle.frame.specs.Reading.{fromOf};
 ghost use Rattle.frame.specs.Reading.{refusalOf as readRefusalOf};
-use crate::print::Line;
-use crate::print::front;
+use cases::lines::Line;
+use cases::lines::front;
 use frame::Receipt;
 use frame::Written;
 

@@ -1,30 +1,27 @@
--- The function print::Line::timeouts meets its contract.
+-- The function single::nearly_worn_out meets its contract.
 use Prim.Native.Nat.{_-_}
 use borrow.Author.Needs.{needs}
-use Rattle.refusals.proofs.print.Line.timeouts.Statement.{statement}
-use Rattle.refusals.proofs.print.Line.timeouts.Tie as tie
+use Rattle.rehearsals.proofs.single.nearly_worn_out.Statement.{statement}
+use Rattle.rehearsals.proofs.single.nearly_worn_out.Tie as tie
 
 abbrev Inv-loop : tie.InvT-loop
-Inv-loop v line₀ k₀ t6 line k = Unit
+Inv-loop s₀ k₀ t5 t6 s k = Unit
 
 abbrev μ-loop : tie.MeasureT-loop
-μ-loop v line₀ k₀ t6 line k = 8 - k
+μ-loop s₀ k₀ t5 t6 s k = 4094 - k
 
-pub timeouts-spec : {M : Type 1} → statement M
-timeouts-spec =
+pub nearly-worn-out-spec : {M : Type 1} → statement M
+nearly-worn-out-spec =
     tie.close
     (tie.spec
     Inv-loop
     μ-loop
     (λ c. search needs)
     (λ c κs. search needs)
-    (λ c κs. search needs)
     (λ c. search needs)
     (λ c. search needs)
     (λ c κs. search needs)
     (λ c. search needs)
-    (λ c. search needs)
-    (λ c κs. search needs)
     (λ c κs. search needs)
     (λ c. search needs)
     (λ c. search needs)

@@ -1,9 +1,9 @@
--- The function print::front meets its contract.
+-- The function lines::front meets its contract.
 use native.Mathlib.Omega.{arith}
 use lib.ListN.{length-take}
 use borrow.Author.Needs.{needs}
-use Rattle.refusals.proofs.print.front.Statement.{statement}
-use Rattle.refusals.proofs.print.front.Tie as tie
+use Rattle.cases.proofs.lines.front.Statement.{statement}
+use Rattle.cases.proofs.lines.front.Tie as tie
 
 slice-aggregate-result : tie.Need-slice-aggregate-result
 slice-aggregate-result c = simp length-take (omega arith)

@@ -1,10 +1,10 @@
--- The function print::Line::text meets its contract.
+-- The function lines::Line::text meets its contract.
 use mathlib.Core.Path.{_≡_}
 use Prim.Native.Nat.{_-_}
 use lib.ListN.{length}
 use borrow.Author.Needs.{needs}
-use Rattle.refusals.proofs.print.Line.text.Statement.{statement}
-use Rattle.refusals.proofs.print.Line.text.Tie as tie
+use Rattle.cases.proofs.lines.Line.text.Statement.{statement}
+use Rattle.cases.proofs.lines.Line.text.Tie as tie
 
 abbrev Inv-loop : tie.InvT-loop
 Inv-loop s line₀ k₀ k-end line k = k-end ≡ length s

@@ -23,13 +23,23 @@ pub fn front(s: &[u8], size: usize) -> &[u8] {
 }
 
 impl Line {
-    // The line of a case, as far as its answer: the number of a refusal, or 0 for accepted.
-    pub fn case(operation: &[u8], name: &[u8], refusal: u64) -> Self {
-        let empty = Self {
+    // The empty line.
+    pub fn new() -> Self {
+        Self {
             bytes: [0u8; 256],
             size: 0,
-        };
-        let line = empty.text(operation).text(b" ").text(name).text(b": ");
+        }
+    }
+
+    // The line of a case, as far as its answer.
+    pub fn case(operation: &[u8], name: &[u8], refusal: u64) -> Self {
+        let named = Self::new().text(operation).text(b" ").text(name);
+        named.answer(refusal)
+    }
+
+    // The line and an answer: the number of a refusal, or 0 for accepted.
+    pub fn answer(self, refusal: u64) -> Self {
+        let line = self.text(b": ");
         if refusal == 0 {
             return line.text(b"accepted");
         }

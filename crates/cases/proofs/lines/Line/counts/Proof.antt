@@ -1,8 +1,8 @@
--- The function print::Line::counts meets its contract.
+-- The function lines::Line::counts meets its contract.
 use Prim.Native.Nat.{_-_}
 use borrow.Author.Needs.{needs}
-use Rattle.refusals.proofs.print.Line.counts.Statement.{statement}
-use Rattle.refusals.proofs.print.Line.counts.Tie as tie
+use Rattle.cases.proofs.lines.Line.counts.Statement.{statement}
+use Rattle.cases.proofs.lines.Line.counts.Tie as tie
 
 abbrev Inv-loop : tie.InvT-loop
 Inv-loop v line₀ k₀ t6 line k = Unit
