@@ -8,6 +8,8 @@ ghost use Rattle.frame.specs.Reading.{countAt, countsOf, reading};
 ghost use Rattle.frame.specs.Reading.{said as saidRead};
 ghost use Rattle.frame.specs.Writing.{writing, said};
 
+pub mod numbers;
+
 // What writing answers: the length written, or why nothing was.
 pub enum Written {
     Bytes(usize),

@@ -9,8 +9,8 @@ use crate::changes::Way;
 use crate::changes::name_number;
 use crate::changes::name_part;
 use crate::changes::name_way;
+use crate::lines::Line;
 use crate::systems::same_system;
-use cases::lines::Line;
 use election::System;
 
 // A sound system.

@@ -1,6 +1,6 @@
 // Changes of a system in one place, and their names.
 ghost use Prim.Native.Nat.{_<_};
-use cases::lines::Line;
+use crate::lines::Line;
 use election::Link;
 use election::Message;
 use election::System;

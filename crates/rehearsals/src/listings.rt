@@ -4,7 +4,7 @@ use crate::answers::next;
 use crate::answers::refusal_of;
 use crate::changes::Number;
 use crate::changes::with_number;
-use cases::lines::Line;
+use crate::lines::Line;
 use election::Answer;
 use election::System;
 

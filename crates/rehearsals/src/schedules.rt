@@ -2,9 +2,9 @@
 ghost use mathlib.Core.Path.{_≡_};
 ghost use Rattle.election.specs.Schedule.{refusalOf, offsetOf};
 use crate::answers::next;
+use crate::lines::Line;
+use crate::lines::front;
 use crate::systems::system;
-use cases::lines::Line;
-use cases::lines::front;
 use election::Ended;
 use listing::rules::ending::number_of;
 

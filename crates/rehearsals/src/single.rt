@@ -3,10 +3,10 @@ ghost use Prim.Native.Nat.{_≤_};
 use crate::answers::length_of;
 use crate::answers::next;
 use crate::answers::refusal_of;
+use crate::lines::Line;
+use crate::lines::front;
 use crate::systems::same_system;
 use crate::systems::system;
-use cases::lines::Line;
-use cases::lines::front;
 use election::System;
 
 // Hands a command to a system, and prints the case.

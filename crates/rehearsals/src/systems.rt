@@ -1,8 +1,8 @@
 // Whether two systems are equal in every field, and a system as a part of a line.
-use cases::lines::Line;
-use cases::same::same;
-use cases::same::same_counts;
-use cases::same::same_timeouts;
+use crate::lines::Line;
+use crate::same::same;
+use crate::same::same_counts;
+use crate::same::same_timeouts;
 use election::Link;
 use election::Message;
 use election::System;

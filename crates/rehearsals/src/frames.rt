@@ -1,75 +1,16 @@
 // The cases of frames: what writing and reading answer, and what they leave.
-ghost use mathlib.Core.Path.{_≡_};
-ghost use Rattle.frame.specs.Writing.{lengthOf};
-ghost use Rattle.frame.specs.Writing.{refusalOf as writeRefusalOf};
-ghost use Rattle.frame.specs.Reading.{fromOf};
-ghost use Rattle.frame.specs.Reading.{refusalOf as readRefusalOf};
-use cases::lines::Line;
-use cases::lines::front;
-use frame::Receipt;
-use frame::Written;
-
-// The number of the refusal, 0 for none.
-fn write_refusal(w: Written) -> u64
-    ensures { λ r. ⌜ r ≡ writeRefusalOf w ⌝ }
-{
-    match w {
-        Written::Bytes(_) => 0,
-        Written::Stations => 5,
-        Written::Counts => 17,
-        Written::Sender => 19,
-        Written::Entry => 20,
-        Written::Space => 16,
-    }
-}
-
-// The length written.
-fn length_of(w: Written) -> u64
-    ensures { λ r. ⌜ r ≡ lengthOf w ⌝ }
-{
-    match w {
-        Written::Bytes(size) => size as u64,
-        Written::Stations => 0,
-        Written::Counts => 0,
-        Written::Sender => 0,
-        Written::Entry => 0,
-        Written::Space => 0,
-    }
-}
-
-// The number of the refusal, 0 for none.
-fn read_refusal(r: Receipt) -> u64
-    ensures { λ x. ⌜ x ≡ readRefusalOf r ⌝ }
-{
-    match r {
-        Receipt::From(_) => 0,
-        Receipt::Stations => 5,
-        Receipt::Length => 17,
-        Receipt::Mark => 18,
-        Receipt::Sender => 19,
-        Receipt::Entry => 20,
-    }
-}
-
-// The sender read.
-fn sender_of(r: Receipt) -> u64
-    ensures { λ x. ⌜ x ≡ fromOf r ⌝ }
-{
-    match r {
-        Receipt::From(sender) => sender as u64,
-        Receipt::Stations => 0,
-        Receipt::Length => 0,
-        Receipt::Mark => 0,
-        Receipt::Sender => 0,
-        Receipt::Entry => 0,
-    }
-}
+use crate::lines::Line;
+use crate::lines::front;
+use frame::numbers::length_of;
+use frame::numbers::read_refusal;
+use frame::numbers::sender_of;
+use frame::numbers::write_refusal;
 
 // Writes a frame, and prints the answer and the buffer as it is then.
 fn write(name: &[u8], n: u8, sender: u8, counts: &[u16], buffer: &mut [u8]) {
     let written = frame::write(n, sender, counts, buffer);
     let line = Line::case(b"write", name, write_refusal(written)).text(b", length ");
-    line.number(length_of(written))
+    line.number(length_of(written) as u64)
         .text(b", buffer")
         .octets(buffer)
         .print();
@@ -81,7 +22,7 @@ fn read(name: &[u8], n: u8, bytes: &[u8]) {
     let answer = received.answer;
     let counts = received.counts;
     let line = Line::case(b"read", name, read_refusal(answer)).text(b", sender ");
-    line.number(sender_of(answer))
+    line.number(sender_of(answer) as u64)
         .text(b", counts ")
         .counts(counts)
         .print();

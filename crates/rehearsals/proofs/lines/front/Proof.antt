@@ -2,8 +2,8 @@
 use native.Mathlib.Omega.{arith}
 use lib.ListN.{length-take}
 use borrow.Author.Needs.{needs}
-use Rattle.cases.proofs.lines.front.Statement.{statement}
-use Rattle.cases.proofs.lines.front.Tie as tie
+use Rattle.rehearsals.proofs.lines.front.Statement.{statement}
+use Rattle.rehearsals.proofs.lines.front.Tie as tie
 
 slice-aggregate-result : tie.Need-slice-aggregate-result
 slice-aggregate-result c = simp length-take (omega arith)

@@ -1,8 +1,8 @@
 // What an operation made of a station, as a line.
 ghost use mathlib.Core.Path.{_≡_};
 ghost use Rattle.station.specs.Operations.{refusalOf};
-use cases::lines::Line;
-use cases::same::same;
+use crate::lines::Line;
+use crate::same::same;
 use station::Answer;
 use station::Outcome;
 use station::Station;

@@ -1,0 +1,323 @@
+// frames COUNT SEED: holds the product's writing and reading of frames, linked from crates/exported, to frame.rs on
+// COUNT cases, and prints how often each refusal came, the cases that differ and 'N passed, M failed'.
+
+mod frame;
+
+use frame::{read_frame, write_frame};
+use std::collections::BTreeMap;
+
+extern "C" {
+    fn leader_frame_write(
+        n: u8,
+        sender: u8,
+        counts: *const u16,
+        counts_length: usize,
+        buffer: *mut u8,
+        buffer_length: usize,
+        written: *mut usize,
+    ) -> u64;
+    fn leader_frame_read(n: u8, bytes: *const u8, bytes_length: usize, sender: *mut u8, counts: *mut u16) -> u64;
+}
+
+const GUARD: usize = 16; // bytes on both sides of a lent buffer, which must stay as they are
+
+/// splitmix64
+struct Random(u64);
+
+impl Random {
+    fn next(&mut self) -> u64 {
+        self.0 = self.0.wrapping_add(0x9E37_79B9_7F4A_7C15);
+        let mut z = self.0;
+        z = (z ^ (z >> 30)).wrapping_mul(0xBF58_476D_1CE4_E5B9);
+        z = (z ^ (z >> 27)).wrapping_mul(0x94D0_49BB_1331_11EB);
+        z ^ (z >> 31)
+    }
+
+    fn range(&mut self, low: u64, high: u64) -> u64 {
+        low + self.next() % (high - low + 1)
+    }
+
+    fn percent(&mut self, p: u64) -> bool {
+        self.next() % 100 < p
+    }
+
+    fn pick(&mut self, from: &[u64]) -> u64 {
+        from[self.next() as usize % from.len()]
+    }
+
+    fn bytes(&mut self, length: usize) -> Vec<u8> {
+        (0..length).map(|_| self.next() as u8).collect()
+    }
+
+    /// Mostly 2 to 8.
+    fn stations(&mut self) -> u8 {
+        match self.range(0, 19) {
+            0 => self.pick(&[0, 1, 9, 10, 255]) as u8,
+            1 => self.range(0, 9) as u8,
+            _ => self.range(2, 8) as u8,
+        }
+    }
+
+    /// Mostly 1 to n.
+    fn sender(&mut self, n: u8) -> u8 {
+        match self.range(0, 9) {
+            0 => self.range(0, 9) as u8,
+            1 => self.pick(&[0, n as u64 + 1, 255]) as u8,
+            _ => self.range(1, (n as u64).max(1)) as u8,
+        }
+    }
+
+    /// A count in range.
+    fn count(&mut self) -> u16 {
+        if self.percent(50) {
+            self.pick(&[0, 1, 2, 255, 256, 4094, 4095]) as u16
+        } else {
+            self.range(0, 4095) as u16
+        }
+    }
+
+    /// n, the sender and the vector of a frame that is well formed.
+    fn leader(&mut self) -> (u8, u8, Vec<u16>) {
+        let n = self.range(2, 8) as u8;
+        let sender = self.range(1, n as u64) as u8;
+        let mut counts: Vec<u16> = (0..n).map(|_| self.count()).collect();
+        let own = &mut counts[sender as usize - 1];
+        *own = (*own).max(1);
+        (n, sender, counts)
+    }
+}
+
+fn wide(counts: &[u16]) -> Vec<u64> {
+    counts.iter().map(|&c| c as u64).collect()
+}
+
+/// What was compared: refusals by number (0: none) for writing and for reading.
+#[derive(Default)]
+struct Tally {
+    written: BTreeMap<u64, u64>,
+    read: BTreeMap<u64, u64>,
+}
+
+/// Writes by both; what differs, if anything.
+fn compare_write(tally: &mut Tally, n: u8, sender: u8, counts: &[u16], buffer: &[u8]) -> Option<String> {
+    let mut own_buffer = buffer.to_vec();
+    let answer = write_frame(n as u64, sender as u64, &wide(counts), &mut own_buffer);
+    let (own_refusal, own_length) = match answer {
+        Ok(length) => (0, length),
+        Err(number) => (number, 0),
+    };
+    *tally.written.entry(own_refusal).or_default() += 1;
+
+    let mut guarded = vec![0xA5; GUARD];
+    guarded.extend(buffer);
+    guarded.extend([0xA5; GUARD]);
+    let mut expected = vec![0xA5; GUARD];
+    expected.extend(&own_buffer);
+    expected.extend([0xA5; GUARD]);
+    let mut length = 77;
+    // The pointers are to live values of these lengths.
+    let refusal = unsafe {
+        let lent = guarded.as_mut_ptr().add(GUARD);
+        leader_frame_write(n, sender, counts.as_ptr(), counts.len(), lent, buffer.len(), &mut length)
+    };
+    if (refusal, length) == (own_refusal, own_length) && guarded == expected {
+        return None;
+    }
+    Some(format!(
+        "write n {n} sender {sender} counts {counts:?} buffer {buffer:02x?}: refusal {refusal} length {length} buffer {:02x?}, \
+         and should be {own_refusal} {own_length} {own_buffer:02x?}",
+        &guarded[GUARD..GUARD + buffer.len()]
+    ))
+}
+
+/// Reads by both; what differs, if anything.
+fn compare_read(tally: &mut Tally, n: u8, bytes: &[u8]) -> Option<String> {
+    let (own_refusal, own_sender, vector) = match read_frame(n as u64, bytes) {
+        Ok((sender, vector)) => (0, sender, vector),
+        Err(number) => (number, 0, Vec::new()),
+    };
+    let mut own_counts = [0; 8]; // zero beyond n, and where refused
+    for (place, count) in own_counts.iter_mut().zip(&vector) {
+        *place = *count as u16;
+    }
+    *tally.read.entry(own_refusal).or_default() += 1;
+
+    let mut sender = 77;
+    let mut guarded = [0xA5A5; 8 + 2 * GUARD];
+    // The pointers are to live values of these lengths.
+    let refusal = unsafe {
+        let lent = guarded.as_mut_ptr().add(GUARD);
+        leader_frame_read(n, bytes.as_ptr(), bytes.len(), &mut sender, lent)
+    };
+    let counts = &guarded[GUARD..GUARD + 8];
+    let around = guarded[..GUARD].iter().chain(&guarded[GUARD + 8..]);
+    let untouched = around.copied().all(|c| c == 0xA5A5);
+    if (refusal, sender as u64, counts) == (own_refusal, own_sender, &own_counts[..]) && untouched {
+        return None;
+    }
+    Some(format!(
+        "read n {n} bytes {bytes:02x?}: refusal {refusal} sender {sender} counts {counts:?}, \
+         and should be {own_refusal} {own_sender} {own_counts:?}"
+    ))
+}
+
+/// A buffer that is shorter than the frame, exact, or longer.
+fn buffer(random: &mut Random, n: u8) -> Vec<u8> {
+    let exact = 2 + 2 * (n as usize);
+    let length = match random.range(0, 9) {
+        0 => 0,
+        1 => exact - 1,
+        2 => random.range(0, exact as u64) as usize,
+        3..=5 => exact,
+        6 => exact + 1,
+        _ => exact + random.range(1, 40) as usize,
+    };
+    random.bytes(length)
+}
+
+/// A well-formed frame, written and read back; the buffer of every length up to two beyond it.
+fn well_formed(random: &mut Random, tally: &mut Tally) -> Option<String> {
+    let (n, sender, counts) = random.leader();
+    let exact = 2 + 2 * n as usize;
+    for length in 0..=exact + 2 {
+        let lent = random.bytes(length);
+        if let Some(difference) = compare_write(tally, n, sender, &counts, &lent) {
+            return Some(difference);
+        }
+    }
+    let mut bytes = vec![0; exact];
+    write_frame(n as u64, sender as u64, &wide(&counts), &mut bytes).expect("it is well formed");
+    compare_read(tally, n, &bytes)
+}
+
+/// Anything handed to writing.
+fn any_write(random: &mut Random, tally: &mut Tally) -> Option<String> {
+    let n = random.stations();
+    let sender = random.sender(n);
+    let many = if random.percent(85) { n.min(20) as u64 } else { random.range(0, 10) };
+    let mut counts: Vec<u16> = (0..many).map(|_| random.count()).collect();
+    if random.percent(30) && many > 0 {
+        let place = random.range(0, many - 1) as usize;
+        counts[place] = random.pick(&[0, 4095, 4096, 4097, 8192, 65_535]) as u16;
+    }
+    let lent = buffer(random, n);
+    compare_write(tally, n, sender, &counts, &lent)
+}
+
+/// Every n from 0 to 9 with every sender from 0 to 9, and counts at the ends of their range and outside it.
+fn grid(random: &mut Random, tally: &mut Tally) -> Option<String> {
+    for n in 0..=9 {
+        for sender in 0..=9 {
+            let mut counts = vec![1; n as usize];
+            for count in &mut counts {
+                if random.percent(20) {
+                    *count = random.pick(&[0, 1, 4095, 4095, 4096, 65_535]) as u16;
+                }
+            }
+            let lent = buffer(random, n);
+            if let Some(difference) = compare_write(tally, n, sender, &counts, &lent) {
+                return Some(difference);
+            }
+            let mut bytes = vec![0x10, sender];
+            bytes.extend(counts.iter().flat_map(|c| c.to_le_bytes()));
+            if let Some(difference) = compare_read(tally, n, &bytes) {
+                return Some(difference);
+            }
+        }
+    }
+    None
+}
+
+/// A frame with each of its bytes damaged in turn.
+fn damaged(random: &mut Random, tally: &mut Tally) -> Option<String> {
+    let (n, sender, counts) = random.leader();
+    let mut bytes = vec![0; 2 + 2 * n as usize];
+    write_frame(n as u64, sender as u64, &wide(&counts), &mut bytes).expect("it is well formed");
+    for place in 0..bytes.len() {
+        let right = bytes[place];
+        let flipped = right ^ (1 << random.range(0, 7));
+        for wrong in [0, 1, right.wrapping_add(1), right.wrapping_sub(1), 0x0F, 0x10, 255, flipped] {
+            bytes[place] = wrong;
+            if let Some(difference) = compare_read(tally, n, &bytes) {
+                return Some(difference);
+            }
+        }
+        bytes[place] = right;
+    }
+    None
+}
+
+/// A frame cut, lengthened, or read with another number of stations.
+fn wrong_length(random: &mut Random, tally: &mut Tally) -> Option<String> {
+    let (n, sender, counts) = random.leader();
+    let mut bytes = vec![0; 2 + 2 * n as usize];
+    write_frame(n as u64, sender as u64, &wide(&counts), &mut bytes).expect("it is well formed");
+    for stations in 0..=10 {
+        if let Some(difference) = compare_read(tally, stations, &bytes) {
+            return Some(difference);
+        }
+    }
+    for length in 0..bytes.len() {
+        if let Some(difference) = compare_read(tally, n, &bytes[..length]) {
+            return Some(difference);
+        }
+    }
+    let more = random.range(1, 20) as usize;
+    bytes.extend(random.bytes(more));
+    compare_read(tally, n, &bytes)
+}
+
+/// Bytes with no plan but the first two.
+fn any_read(random: &mut Random, tally: &mut Tally) -> Option<String> {
+    let n = random.stations();
+    let length = if random.percent(90) { 2 + 2 * n as usize } else { random.range(0, 24) as usize };
+    let mut bytes = random.bytes(length);
+    if length >= 2 && random.percent(90) {
+        bytes[0] = 0x10;
+        bytes[1] = random.sender(n);
+        for high in bytes[2..].iter_mut().skip(1).step_by(2) {
+            *high %= 16;
+        }
+        if length > 3 && random.percent(40) {
+            let place = random.range(2, length as u64 - 1) as usize;
+            bytes[place] = random.pick(&[0, 15, 16, 255]) as u8;
+        }
+    }
+    compare_read(tally, n, &bytes)
+}
+
+fn main() {
+    let words: Vec<String> = std::env::args().collect();
+    let numbers: Vec<u64> = words.iter().skip(1).filter_map(|w| w.parse().ok()).collect();
+    if words.len() != 3 || numbers.len() != 2 {
+        eprintln!("usage: frames COUNT SEED");
+        std::process::exit(2);
+    }
+    let (count, seed) = (numbers[0], numbers[1]);
+    let mut random = Random(seed);
+    let mut tally = Tally::default();
+    let (mut passed, mut failed) = (0, 0);
+    for number in 1..=count {
+        let difference = match number % 6 {
+            0 => well_formed(&mut random, &mut tally),
+            1 => any_write(&mut random, &mut tally),
+            2 => damaged(&mut random, &mut tally),
+            3 => wrong_length(&mut random, &mut tally),
+            4 => grid(&mut random, &mut tally),
+            _ => any_read(&mut random, &mut tally),
+        };
+        match difference {
+            None => passed += 1,
+            Some(text) => {
+                failed += 1;
+                println!("case {number}: {text}");
+            }
+        }
+    }
+    for (name, refusals) in [("write", &tally.written), ("read", &tally.read)] {
+        let texts: Vec<String> = refusals.iter().map(|(number, times)| format!("{number}: {times}")).collect();
+        println!("{name}, times each refusal (0: accepted): {}", texts.join(", "));
+    }
+    println!("{passed} passed, {failed} failed");
+    std::process::exit(if failed == 0 && passed != 0 { 0 } else { 1 });
+}

@@ -1,0 +1,868 @@
+// schedules COUNT SEED DIR: writes DIR/1.bin to DIR/COUNT.bin, schedules for the rehearsal program, and DIR/kinds, a
+// line for each with its number and its kind. The same seed and number always give the same schedule.
+
+use std::fs;
+use std::io::Write;
+
+const SETUP: u8 = 1;
+const START: u8 = 2;
+const CRASH: u8 = 3;
+const LINK: u8 = 4;
+const RUN: u8 = 5;
+const LOSE: u8 = 6;
+const REPORT: u8 = 7;
+
+const LAST_TICK: u64 = 1_000_000;
+
+/// splitmix64
+struct Random(u64);
+
+impl Random {
+    fn next(&mut self) -> u64 {
+        self.0 = self.0.wrapping_add(0x9E37_79B9_7F4A_7C15);
+        let mut z = self.0;
+        z = (z ^ (z >> 30)).wrapping_mul(0xBF58_476D_1CE4_E5B9);
+        z = (z ^ (z >> 27)).wrapping_mul(0x94D0_49BB_1331_11EB);
+        z ^ (z >> 31)
+    }
+
+    /// From low to high, both included.
+    fn range(&mut self, low: u64, high: u64) -> u64 {
+        low + self.next() % (high - low + 1)
+    }
+
+    fn percent(&mut self, p: u64) -> bool {
+        self.next() % 100 < p
+    }
+
+    fn pick(&mut self, from: &[u64]) -> u64 {
+        from[self.next() as usize % from.len()]
+    }
+
+    fn byte(&mut self) -> u8 {
+        self.next() as u8
+    }
+}
+
+/// A schedule under construction, with as much of the state as is needed to know what is accepted.
+struct Plan {
+    random: Random,
+    bytes: Vec<u8>,
+    n: u64,
+    eta: u64,
+    tick: u64,
+    up: Vec<bool>,
+    starts: Vec<u64>,
+    report_percent: u64,
+}
+
+impl Plan {
+    fn new(random: Random) -> Plan {
+        Plan { random, bytes: Vec::new(), n: 0, eta: 0, tick: 0, up: vec![], starts: vec![], report_percent: 85 }
+    }
+
+    fn set_up(&mut self, n: u64, eta: u64) {
+        self.bytes.extend([SETUP, n as u8, eta as u8]);
+        (self.n, self.eta, self.tick) = (n, eta, 0);
+        self.up = vec![false; n as usize + 1];
+        self.starts = vec![0; n as usize + 1];
+    }
+
+    fn set_up_any(&mut self) {
+        let n = match self.random.range(0, 9) {
+            0..=2 => 2,
+            3..=4 => 3,
+            5 => 8,
+            _ => self.random.range(2, 8),
+        };
+        let eta = match self.random.range(0, 9) {
+            0..=3 => 16,
+            4..=6 => self.random.range(16, 24),
+            7..=8 => self.random.range(16, 80),
+            _ => self.random.pick(&[16, 17, 63, 64, 65, 128, 254, 255]),
+        };
+        self.set_up(n, eta);
+    }
+
+    fn station(&mut self) -> u64 {
+        self.random.range(1, self.n)
+    }
+
+    /// Two stations that differ.
+    fn link_ends(&mut self) -> (u64, u64) {
+        let from = self.station();
+        let to = (from + self.random.range(0, self.n - 2)) % self.n + 1;
+        (from, to)
+    }
+
+    fn some(&mut self, up: bool) -> Option<u64> {
+        let all: Vec<u64> = (1..=self.n).filter(|&s| self.up[s as usize] == up).collect();
+        if all.is_empty() {
+            None
+        } else {
+            Some(self.random.pick(&all))
+        }
+    }
+
+    fn start(&mut self, s: u64) {
+        self.bytes.extend([START, s as u8]);
+        self.up[s as usize] = true;
+        self.starts[s as usize] += 1;
+    }
+
+    fn crash(&mut self, s: u64) {
+        self.bytes.extend([CRASH, s as u8]);
+        self.up[s as usize] = false;
+    }
+
+    fn start_some(&mut self) {
+        if let Some(s) = self.some(false) {
+            if self.starts[s as usize] < 4095 {
+                self.start(s);
+            }
+        }
+    }
+
+    fn crash_some(&mut self) {
+        if let Some(s) = self.some(true) {
+            self.crash(s);
+        }
+    }
+
+    fn start_all(&mut self) {
+        for s in 1..=self.n {
+            if !self.up[s as usize] {
+                self.start(s);
+            }
+        }
+    }
+
+    fn link(&mut self, from: u64, to: u64, delay: u64) {
+        self.bytes.extend([LINK, from as u8, to as u8, delay as u8]);
+    }
+
+    fn delay(&mut self) -> u64 {
+        match self.random.range(0, 9) {
+            0..=2 => self.random.range(1, 4),
+            3 => 0,
+            4..=5 => self.random.pick(&[1, 2, 15, 16, 17, 18, 32, 33, 63, 64]),
+            _ => self.random.range(0, 64),
+        }
+    }
+
+    fn link_some(&mut self) {
+        let (from, to) = self.link_ends();
+        let delay = self.delay();
+        self.link(from, to, delay);
+    }
+
+    fn lose_some(&mut self) {
+        let (from, to) = self.link_ends();
+        self.bytes.extend([LOSE, from as u8, to as u8]);
+    }
+
+    fn report(&mut self) {
+        self.bytes.push(REPORT);
+    }
+
+    fn run_silent(&mut self, ticks: u64) {
+        let ticks = ticks.clamp(1, 65_535).min(LAST_TICK - self.tick);
+        if ticks == 0 {
+            return;
+        }
+        self.bytes.extend([RUN, (ticks % 256) as u8, (ticks / 256) as u8]);
+        self.tick += ticks;
+    }
+
+    fn run(&mut self, ticks: u64) {
+        self.run_silent(ticks);
+        if self.random.percent(self.report_percent) {
+            self.report();
+        }
+    }
+
+    fn run_to(&mut self, tick: u64) {
+        if tick > self.tick {
+            let ticks = tick - self.tick;
+            self.run(ticks);
+        }
+    }
+
+    /// Some stations that differ, ascending but for the last, which is any.
+    fn some_of(&mut self, many: usize) -> Vec<u64> {
+        let mut left: Vec<u64> = (1..=self.n).collect();
+        let mut taken = Vec::new();
+        while taken.len() < many {
+            let place = self.random.next() as usize % left.len();
+            taken.push(left.remove(place));
+        }
+        taken[..many - 1].sort();
+        taken
+    }
+
+    /// Mostly short runs, and many that end near a beat.
+    fn run_some(&mut self) {
+        let ticks = match self.random.range(0, 9) {
+            0..=2 => 1,
+            3 => self.random.range(2, 5),
+            4..=5 => self.random.range(1, self.eta),
+            6 => self.eta + self.random.range(0, 3) - 1,
+            7 => 2 * self.eta + self.random.range(0, 4) - 2,
+            8 => self.random.range(1, 64),
+            _ => self.random.range(1, 200),
+        };
+        self.run(ticks);
+    }
+
+    /// How many bytes to aim at: mostly 20 to 150, at most 400.
+    fn aim(&mut self) -> usize {
+        let high = self.random.pick(&[60, 100, 150, 150, 250, 400]);
+        self.random.range(20, high) as usize
+    }
+
+    /// Any accepted command, by weights: start, crash, link, run, lose, report.
+    fn step(&mut self, weights: [u64; 6]) {
+        let mut x = self.random.range(1, weights.iter().sum());
+        for (i, w) in weights.into_iter().enumerate() {
+            if x <= w {
+                match i {
+                    0 => self.start_some(),
+                    1 => self.crash_some(),
+                    2 => self.link_some(),
+                    3 => self.run_some(),
+                    4 => self.lose_some(),
+                    _ => self.report(),
+                }
+                return;
+            }
+            x -= w;
+        }
+    }
+
+    fn steps(&mut self, weights: [u64; 6]) {
+        let aim = self.aim();
+        while self.bytes.len() < aim {
+            self.step(weights);
+        }
+        self.report();
+    }
+}
+
+fn valid(p: &mut Plan) {
+    p.set_up_any();
+    if p.random.percent(60) {
+        p.start_all();
+    }
+    p.steps([20, 8, 15, 50, 5, 2]);
+}
+
+/// Many crashes and starts, with short runs between.
+fn storm(p: &mut Plan) {
+    p.set_up_any();
+    p.start_all();
+    p.steps([35, 35, 5, 40, 1, 1]);
+}
+
+/// One station comes and goes while the others hear of it.
+fn unstable(p: &mut Plan) {
+    p.set_up_any();
+    p.start_all();
+    let s = p.station();
+    let aim = p.aim();
+    while p.bytes.len() < aim {
+        let rounds = p.random.range(1, 3);
+        for _ in 0..rounds {
+            if p.up[s as usize] {
+                p.crash(s);
+            }
+            p.start(s);
+        }
+        let ticks = p.eta + p.starts[s as usize] + p.random.range(0, 4) - 1;
+        p.run(ticks);
+        p.run_some();
+    }
+}
+
+/// Long delays on most links and a short beat, so that links are full.
+fn slow(p: &mut Plan) {
+    let n = p.random.range(2, 5);
+    let eta = p.random.range(16, 21);
+    p.set_up(n, eta);
+    for from in 1..=n {
+        for to in (1..=n).filter(|&to| to != from) {
+            if p.random.percent(80) {
+                let delay = p.random.range(40, 64);
+                p.link(from, to, delay);
+            }
+        }
+    }
+    p.start_all();
+    let aim = p.bytes.len() + 20 + p.aim() / 2;
+    while p.bytes.len() < aim {
+        p.step([6, 5, 8, 75, 6, 0]);
+    }
+}
+
+/// Links cut and mended, also in groups.
+fn cut(p: &mut Plan) {
+    p.set_up_any();
+    p.start_all();
+    let aim = p.aim() + 40;
+    while p.bytes.len() < aim {
+        if p.random.percent(40) {
+            let s = p.station();
+            let delay = if p.random.percent(60) { 0 } else { p.random.range(1, 8) };
+            let both = p.random.percent(50);
+            for other in (1..=p.n).filter(|&o| o != s) {
+                p.link(s, other, delay);
+                if both {
+                    p.link(other, s, delay);
+                }
+            }
+        } else {
+            p.step([5, 4, 20, 70, 1, 0]);
+        }
+    }
+    p.report();
+}
+
+/// The delay falls while messages are under way, so that a later one arrives first or in the same tick.
+fn overtake(p: &mut Plan) {
+    let n = p.random.range(2, 4);
+    let eta = p.random.range(16, 20);
+    p.set_up(n, eta);
+    let (from, to) = p.link_ends();
+    let long = p.random.range(40, 64);
+    p.link(from, to, long);
+    p.start_all();
+    let aim = p.aim() + 60;
+    while p.bytes.len() < aim {
+        let mut delay = long;
+        p.link(from, to, delay);
+        let ticks = p.random.range(eta / 2, 2 * eta + 2);
+        p.run(ticks);
+        let sendings = p.random.range(1, 3);
+        for _ in 0..sendings {
+            // by exactly the beat, both are due in one tick
+            let less = if p.random.percent(50) { eta } else { p.random.range(1, 2 * eta) };
+            delay = delay.saturating_sub(less).max(1);
+            p.link(from, to, delay);
+            if p.random.percent(25) {
+                p.step([20, 30, 20, 0, 30, 0]);
+            }
+            p.run(eta);
+        }
+        for _ in 0..p.random.range(1, 6) {
+            p.run(1);
+        }
+    }
+}
+
+/// Messages of several senders due at one station in one tick: delays that add up with the starts.
+fn collide(p: &mut Plan) {
+    let n = p.random.range(3, 8);
+    let eta = p.random.range(16, 40);
+    p.set_up(n, eta);
+    p.report_percent = 60;
+    let meet = p.random.range(10, 60);
+    let mut late: Vec<u64> = (1..=n).map(|_| p.random.range(0, 9)).collect();
+    if p.random.percent(50) {
+        late.iter_mut().for_each(|l| *l = 0);
+    }
+    for from in 1..=n {
+        for to in (1..=n).filter(|&to| to != from) {
+            if p.random.percent(70) {
+                p.link(from, to, meet - late[from as usize - 1]);
+            }
+        }
+    }
+    for moment in 0..=9 {
+        for s in 1..=n {
+            if late[s as usize - 1] == moment {
+                p.start(s);
+            }
+        }
+        p.run_silent(1);
+    }
+    let aim = p.bytes.len() + 60;
+    while p.bytes.len() < aim {
+        p.step([8, 10, 6, 75, 2, 0]);
+    }
+}
+
+/// Two senders are heard in one tick, and only one of them knows that the trusted leader has started again: the order of
+/// senders decides whom the hearer trusts.
+fn informed(p: &mut Plan) {
+    let n = p.random.range(4, 8);
+    let eta = p.random.range(16, 20);
+    p.set_up(n, eta);
+    p.report_percent = 95;
+    let four = p.some_of(4);
+    let (leader, hearer) = (four[0], four[3]);
+    let (early, late) = if p.random.percent(50) { (four[1], four[2]) } else { (four[2], four[1]) };
+    for from in [leader, early, late] {
+        for to in [leader, early, late] {
+            if from != to {
+                p.link(from, to, 0);
+            }
+        }
+    }
+    let lag = p.random.range(0, 4);
+    let near = p.random.range(1, 5);
+    p.link(early, hearer, near + lag);
+    p.link(late, hearer, near);
+    // many starts make long timeouts
+    for _ in 0..p.random.range(28, 34) {
+        p.start(hearer);
+        p.crash(hearer);
+    }
+    p.start(hearer);
+    p.start(leader);
+    p.start(early);
+    p.run_to(lag);
+    p.start(late);
+    p.run_to(2 * eta + 2);
+    for _ in 0..p.random.range(1, 3) {
+        p.crash(leader);
+        p.start(leader);
+    }
+    p.link(leader, hearer, 0);
+    let knows = if p.random.percent(50) { early } else { late };
+    p.link(leader, knows, 1);
+    p.run_to(lag + 4 * eta + near);
+    for _ in 0..4 {
+        p.run(1);
+    }
+    p.run_some();
+}
+
+/// Two messages of one sender, which started again between them, are heard in one tick or nearly so.
+fn restarted(p: &mut Plan) {
+    let n = p.random.range(3, 8);
+    let eta = p.random.range(16, 18);
+    p.set_up(n, eta);
+    p.report_percent = 95;
+    let three = p.some_of(3);
+    let (sender, leader, hearer) = (three[0], three[1], three[2]);
+    p.link(sender, leader, 0);
+    p.link(leader, sender, 0);
+    let long = p.random.range(58, 64);
+    p.link(sender, hearer, long);
+    for _ in 0..p.random.range(1, 3) {
+        p.start(hearer);
+        p.crash(hearer);
+    }
+    for s in [sender, leader, hearer] {
+        p.start(s);
+    }
+    p.run_to(eta + 1);
+    let more = p.random.range(1, 4);
+    for _ in 0..more {
+        p.crash(sender);
+        p.start(sender);
+    }
+    let off = p.random.pick(&[0, 0, 0, 0, 1, 2]);
+    p.link(sender, hearer, long - (eta + 1 + more) - off);
+    p.run_to(eta + 1 + long - 3);
+    for _ in 0..5 {
+        p.run(1);
+    }
+    p.run_some();
+}
+
+fn lose(p: &mut Plan) {
+    p.set_up_any();
+    p.start_all();
+    for _ in 0..p.random.range(1, 6) {
+        let (from, to) = p.link_ends();
+        let delay = p.random.range(10, 64);
+        p.link(from, to, delay);
+    }
+    p.steps([5, 4, 10, 55, 30, 0]);
+}
+
+/// A report after every command, and runs of one tick.
+fn reports(p: &mut Plan) {
+    p.set_up_any();
+    p.report();
+    let aim = p.aim();
+    while p.bytes.len() < aim {
+        if p.random.percent(60) {
+            p.run_silent(1);
+        } else {
+            let ticks = p.eta - 1;
+            p.run_silent(ticks);
+        }
+        p.report();
+        if p.random.percent(40) {
+            p.step([40, 20, 20, 0, 10, 0]);
+            p.report();
+        }
+    }
+}
+
+/// Both ends of every range, mostly on the right side.
+fn boundary(p: &mut Plan) {
+    if p.random.percent(10) {
+        // the refused neighbours
+        let n = p.random.pick(&[1, 2, 8, 9]) as u8;
+        let eta = p.random.pick(&[15, 16, 255]) as u8;
+        p.bytes.extend([SETUP, n, eta, START, 1, REPORT]);
+        return;
+    }
+    let n = p.random.pick(&[2, 8]);
+    let eta = p.random.pick(&[16, 255]);
+    p.set_up(n, eta);
+    if p.random.percent(80) {
+        p.start_all();
+    }
+    let aim = p.aim();
+    while p.bytes.len() < aim {
+        let end = if p.random.percent(50) { 1 } else { n };
+        let other = if end == 1 { n } else { 1 };
+        match p.random.range(0, 7) {
+            0..=1 => {
+                let delay = p.random.pick(&[0, 1, 63, 64, 64]);
+                p.link(end, other, delay);
+            }
+            2 => {
+                let ticks = p.random.pick(&[1, 255, 256, 257, 65_535]);
+                p.run(ticks);
+            }
+            3 => p.bytes.extend([LOSE, end as u8, other as u8]),
+            4 if p.up[end as usize] => p.crash(end),
+            4 => p.start(end),
+            _ => p.run_some(),
+        }
+        if p.random.percent(4) {
+            refusal(p);
+            break;
+        }
+    }
+    p.report();
+}
+
+/// Up to tick 1,000,000, and often one more.
+fn far(p: &mut Plan) {
+    p.set_up_any();
+    p.start_all();
+    while p.tick < 900_000 {
+        if p.random.percent(30) {
+            p.step([5, 10, 20, 0, 5, 1]);
+        }
+        p.run(65_535);
+    }
+    for _ in 0..p.random.range(0, 6) {
+        p.step([5, 5, 20, 60, 5, 1]);
+    }
+    while p.tick < LAST_TICK - 40 {
+        let ticks = (LAST_TICK - 40 - p.tick).min(65_535);
+        p.run(ticks);
+    }
+    for _ in 0..p.random.range(0, 3) {
+        p.run_some();
+    }
+    match p.random.range(0, 3) {
+        0 => p.run(65_535), // exactly to the end
+        1 => {
+            p.run(65_535);
+            p.report();
+            p.bytes.extend([RUN, 1, 0, REPORT]);
+        }
+        2 => {
+            let ticks = LAST_TICK - p.tick + 1;
+            p.bytes.extend([RUN, ticks as u8, 0, REPORT]);
+        }
+        _ => p.bytes.extend([RUN, 255, 255, REPORT]),
+    }
+}
+
+/// A head that is started until its count is 4095, and others that hear of it.
+fn wear(p: &mut Plan) {
+    let n = p.random.range(2, 4);
+    let eta = p.random.pick(&[16, 20, 255]);
+    p.set_up(n, eta);
+    let s = p.station();
+    let last = p.random.pick(&[4093, 4094, 4094, 4095, 4095]);
+    let first_run = p.random.range(1, 4000);
+    for round in 1..=last {
+        p.start(s);
+        if round == first_run {
+            for other in 1..=n {
+                if !p.up[other as usize] {
+                    p.start(other);
+                }
+            }
+            p.run(40);
+        }
+        if round % 512 == 0 {
+            p.run_some();
+        }
+        if round < last || p.random.percent(70) {
+            p.crash(s);
+        }
+    }
+    p.report();
+    // its wait is now eta + count long
+    if !p.up[s as usize] && p.starts[s as usize] < 4095 {
+        p.start(s);
+    }
+    let ticks = eta + p.starts[s as usize] - 1;
+    p.run(ticks);
+    p.run(1);
+    p.run(1);
+    for _ in 0..6 {
+        p.run_some();
+    }
+    if p.up[s as usize] {
+        p.crash(s);
+    }
+    p.report();
+    p.bytes.extend([START, s as u8]); // refused at 4095
+    p.run_some();
+    p.report();
+}
+
+/// Some thousand bytes.
+fn long(p: &mut Plan) {
+    p.set_up_any();
+    p.start_all();
+    p.report_percent = 40;
+    let aim = p.random.range(1000, 8000) as usize;
+    while p.bytes.len() < aim {
+        p.step([15, 12, 15, 50, 6, 2]);
+    }
+    p.report();
+}
+
+/// A command that is refused, each number alike, in any state reached so far.
+fn refusal(p: &mut Plan) {
+    let s = if p.n == 0 { 1 } else { p.station() };
+    let above = p.n + 1;
+    let wrong = p.random.pick(&[0, above, 9, 255]);
+    match p.random.range(1, 13) {
+        1 => {
+            let byte = p.random.pick(&[0, 8, 9, 16, 127, 128, 255]);
+            p.bytes.push(byte as u8);
+        }
+        2 => {
+            let name = p.random.range(1, 6) as u8;
+            let width = [0, 2, 1, 1, 3, 2, 2][name as usize];
+            let there = p.random.range(0, width - 1);
+            p.bytes.push(name);
+            for _ in 0..there {
+                p.bytes.push(1);
+            }
+            return; // nothing may follow
+        }
+        3 if p.n == 0 => {
+            let name = p.random.range(2, 7) as u8;
+            p.bytes.push(name);
+            for _ in 0..[0, 2, 1, 1, 3, 2, 0][name as usize - 1] {
+                let byte = p.random.pick(&[0, 1, 2, 255]) as u8;
+                p.bytes.push(byte);
+            }
+        }
+        3 | 4 if p.n != 0 => {
+            let n = p.random.pick(&[0, 1, 2, 8, 9, 255]) as u8;
+            let eta = p.random.pick(&[0, 15, 16, 255]) as u8;
+            p.bytes.extend([SETUP, n, eta]);
+        }
+        5 if p.n == 0 => {
+            let n = p.random.pick(&[0, 1, 9, 255]) as u8;
+            let eta = p.random.pick(&[0, 15, 16, 255]) as u8;
+            p.bytes.extend([SETUP, n, eta]);
+        }
+        4 | 6 if p.n == 0 => {
+            let n = p.random.pick(&[2, 8]) as u8;
+            let eta = p.random.pick(&[0, 1, 15]) as u8;
+            p.bytes.extend([SETUP, n, eta]);
+        }
+        5..=7 => match p.random.range(0, 5) {
+            0 => p.bytes.extend([START, wrong as u8]),
+            1 => p.bytes.extend([CRASH, wrong as u8]),
+            2 => p.bytes.extend([LINK, wrong as u8, s as u8, 200]),
+            3 => p.bytes.extend([LINK, s as u8, wrong as u8, 1]),
+            4 => p.bytes.extend([LOSE, wrong as u8, wrong as u8]),
+            _ => p.bytes.extend([LOSE, s as u8, wrong as u8]),
+        },
+        8 => {
+            let s = p.some(true).unwrap_or(s);
+            p.bytes.extend([START, s as u8]);
+        }
+        9 => {
+            let s = p.some(false).unwrap_or(s);
+            p.bytes.extend([CRASH, s as u8]);
+        }
+        10 => p.bytes.extend([LINK, s as u8, s as u8, 65]),
+        11 => p.bytes.extend([LOSE, s as u8, s as u8]),
+        12 if p.n != 0 => {
+            let (from, to) = p.link_ends();
+            let delay = p.random.pick(&[65, 65, 66, 128, 255]) as u8;
+            p.bytes.extend([LINK, from as u8, to as u8, delay]);
+        }
+        _ => p.bytes.extend([RUN, 0, 0]),
+    }
+    // bytes that must not be reached
+    for _ in 0..p.random.range(0, 4) {
+        let byte = p.random.range(0, 8) as u8;
+        p.bytes.push(byte);
+    }
+}
+
+/// Some accepted commands, then a refused one.
+fn refused(p: &mut Plan) {
+    if p.random.percent(75) {
+        p.set_up_any();
+        if p.random.percent(50) {
+            p.start_all();
+        }
+        for _ in 0..p.random.range(0, 12) {
+            p.step([20, 10, 15, 45, 5, 5]);
+        }
+    }
+    refusal(p);
+}
+
+/// A schedule that ends inside its last command.
+fn missing(p: &mut Plan) {
+    valid(p);
+    p.bytes.pop(); // the report
+    if p.random.percent(50) {
+        p.run_silent(3);
+    } else {
+        p.link_some();
+    }
+    for _ in 0..p.random.range(1, 3) {
+        p.bytes.pop();
+    }
+}
+
+/// Another schedule with bytes changed, cut or inserted.
+fn damaged(p: &mut Plan) {
+    match p.random.range(0, 5) {
+        0 => storm(p),
+        1 => slow(p),
+        2 => lose(p),
+        3 => reports(p),
+        _ => valid(p),
+    }
+    for _ in 0..p.random.range(1, 3) {
+        let length = p.bytes.len() as u64;
+        if length < 4 {
+            return;
+        }
+        // seldom in the set up, so that something runs
+        let low = if p.random.percent(20) { 0 } else { 3 };
+        let place = p.random.range(low, length - 1) as usize;
+        match p.random.range(0, 5) {
+            0 => p.bytes[place] = p.random.byte(),
+            1 => p.bytes[place] = p.random.range(0, 8) as u8,
+            2 => p.bytes[place] ^= 1 << p.random.range(0, 7),
+            3 => {
+                let byte = p.random.range(0, 8) as u8;
+                p.bytes.insert(place, byte);
+            }
+            4 => {
+                p.bytes.remove(place);
+            }
+            _ => {
+                if p.random.percent(50) {
+                    p.bytes.truncate(place);
+                } else {
+                    let byte = p.random.pick(&[0, 255]) as u8;
+                    p.bytes[place] = byte;
+                }
+            }
+        }
+    }
+}
+
+/// Bytes with no plan, mostly small ones.
+fn noise(p: &mut Plan) {
+    if p.random.percent(70) {
+        p.set_up_any();
+    }
+    for _ in 0..p.random.range(1, 60) {
+        let byte = if p.random.percent(90) { p.random.range(0, 8) as u8 } else { p.random.byte() };
+        p.bytes.push(byte);
+    }
+}
+
+/// Exactly 65,536 bytes, or more.
+fn huge(p: &mut Plan) {
+    p.set_up(2, 16);
+    p.start_all();
+    p.run(40);
+    let length = p.random.pick(&[65_535, 65_536, 65_536, 65_537, 65_537, 65_538, 70_000, 140_000]) as usize;
+    while p.bytes.len() + 8 < length {
+        match p.random.range(0, 99) {
+            0..=59 => p.link_some(),
+            60..=98 => p.lose_some(),
+            _ => p.run_some(),
+        }
+    }
+    while p.bytes.len() < length {
+        p.report();
+    }
+}
+
+type Kind = (u64, &'static str, fn(&mut Plan));
+
+/// How many of each kind in 2,000.
+const KINDS: [Kind; 22] = [
+    (295, "valid", valid),
+    (170, "storm", storm),
+    (130, "unstable", unstable),
+    (140, "slow", slow),
+    (130, "cut", cut),
+    (150, "overtake", overtake),
+    (80, "collide", collide),
+    (60, "informed", informed),
+    (60, "restarted", restarted),
+    (110, "lose", lose),
+    (90, "reports", reports),
+    (100, "boundary", boundary),
+    (220, "refused", refused),
+    (30, "missing", missing),
+    (150, "damaged", damaged),
+    (40, "noise", noise),
+    (24, "long", long),
+    (8, "far", far),
+    (8, "wear", wear),
+    (2, "huge", huge),
+    (2, "empty", |_| {}),
+    (1, "still", |p| p.set_up_any()),
+];
+
+fn schedule(seed: u64, number: u64) -> (&'static str, Vec<u8>) {
+    let mut seeds = Random(seed);
+    let mut random = Random(seeds.next() ^ number.wrapping_mul(0xD1B5_4A32_D192_ED03));
+    let total: u64 = KINDS.iter().map(|k| k.0).sum();
+    let mut x = random.range(1, total);
+    for (weight, name, make) in KINDS {
+        if x <= weight {
+            let mut plan = Plan::new(random);
+            make(&mut plan);
+            return (name, plan.bytes);
+        }
+        x -= weight;
+    }
+    unreachable!()
+}
+
+fn main() {
+    let words: Vec<String> = std::env::args().collect();
+    let numbers: Vec<u64> = words.iter().skip(1).take(2).filter_map(|w| w.parse().ok()).collect();
+    if words.len() != 4 || numbers.len() != 2 {
+        eprintln!("usage: schedules COUNT SEED DIR");
+        std::process::exit(2);
+    }
+    let (count, seed, dir) = (numbers[0], numbers[1], &words[3]);
+    let mut kinds = fs::File::create(format!("{dir}/kinds")).expect("the folder can be written to");
+    for number in 1..=count {
+        let (kind, bytes) = schedule(seed, number);
+        fs::write(format!("{dir}/{number}.bin"), bytes).expect("the folder can be written to");
+        writeln!(kinds, "{number} {kind}").expect("the folder can be written to");
+    }
+}
