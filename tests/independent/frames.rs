@@ -2,8 +2,10 @@
 // COUNT cases, and prints how often each refusal came, the cases that differ and 'N passed, M failed'.
 
 mod frame;
+mod random;
 
 use frame::{read_frame, write_frame};
+use random::Random;
 use std::collections::BTreeMap;
 
 extern "C" {
@@ -21,32 +23,9 @@ extern "C" {
 
 const GUARD: usize = 16; // bytes on both sides of a lent buffer, which must stay as they are
 
-/// splitmix64
-struct Random(u64);
-
 impl Random {
-    fn next(&mut self) -> u64 {
-        self.0 = self.0.wrapping_add(0x9E37_79B9_7F4A_7C15);
-        let mut z = self.0;
-        z = (z ^ (z >> 30)).wrapping_mul(0xBF58_476D_1CE4_E5B9);
-        z = (z ^ (z >> 27)).wrapping_mul(0x94D0_49BB_1331_11EB);
-        z ^ (z >> 31)
-    }
-
-    fn range(&mut self, low: u64, high: u64) -> u64 {
-        low + self.next() % (high - low + 1)
-    }
-
-    fn percent(&mut self, p: u64) -> bool {
-        self.next() % 100 < p
-    }
-
-    fn pick(&mut self, from: &[u64]) -> u64 {
-        from[self.next() as usize % from.len()]
-    }
-
     fn bytes(&mut self, length: usize) -> Vec<u8> {
-        (0..length).map(|_| self.next() as u8).collect()
+        (0..length).map(|_| self.byte()).collect()
     }
 
     /// Mostly 2 to 8.

@@ -1,6 +1,9 @@
 // schedules COUNT SEED DIR: writes DIR/1.bin to DIR/COUNT.bin, schedules for the rehearsal program, and DIR/kinds, a
 // line for each with its number and its kind. The same seed and number always give the same schedule.
 
+mod random;
+
+use random::Random;
 use std::fs;
 use std::io::Write;
 
@@ -13,36 +16,6 @@ const LOSE: u8 = 6;
 const REPORT: u8 = 7;
 
 const LAST_TICK: u64 = 1_000_000;
-
-/// splitmix64
-struct Random(u64);
-
-impl Random {
-    fn next(&mut self) -> u64 {
-        self.0 = self.0.wrapping_add(0x9E37_79B9_7F4A_7C15);
-        let mut z = self.0;
-        z = (z ^ (z >> 30)).wrapping_mul(0xBF58_476D_1CE4_E5B9);
-        z = (z ^ (z >> 27)).wrapping_mul(0x94D0_49BB_1331_11EB);
-        z ^ (z >> 31)
-    }
-
-    /// From low to high, both included.
-    fn range(&mut self, low: u64, high: u64) -> u64 {
-        low + self.next() % (high - low + 1)
-    }
-
-    fn percent(&mut self, p: u64) -> bool {
-        self.next() % 100 < p
-    }
-
-    fn pick(&mut self, from: &[u64]) -> u64 {
-        from[self.next() as usize % from.len()]
-    }
-
-    fn byte(&mut self) -> u8 {
-        self.next() as u8
-    }
-}
 
 /// A schedule under construction, with as much of the state as is needed to know what is accepted.
 struct Plan {
