@@ -11,10 +11,10 @@ use Rattle.election.specs.Breaches.{verdicts, Clauses}
 use Rattle.election.specs.System.{messages, holding, fresh, initial}
 use Rattle.election.specs.Tick.{heardLink, heardAll, expiredNow, slottedNow, sending, later, sent, tick, ticks}
 use Rattle.election.specs.Tick.{settled as settledIn}
-use Rattle.election.specs.Sound.{emptyStation, emptyMessage, messageIn, beforeSlot, linkIn, placeIn, stationIn, sound}
+use Rattle.election.specs.Sound.{emptyStation, emptyMessage, messageIn, beforeSlot, linkIn, emptyPlace, emptySeat, placeIn, stationIn, sound}
 use Rattle.election.specs.Commands.{decode, refusal, perform, command}
 use Rattle.election.specs.Schedule.{follow, schedule}
 
 pub clauses : Clauses
-unfolding countTo upTo over each allTo before timeoutsOf started crashed joined adopted settled heard expired slotted ranges keptIn cleared countsIn timeoutsIn alive slotIn timerIn standing fit messages holding fresh initial heardLink heardAll expiredNow slottedNow settledIn sending later sent tick ticks emptyStation emptyMessage messageIn beforeSlot linkIn placeIn stationIn sound decode refusal perform command follow schedule verdicts
+unfolding countTo upTo over each allTo before timeoutsOf started crashed joined adopted settled heard expired slotted ranges keptIn cleared countsIn timeoutsIn alive slotIn timerIn standing fit messages holding fresh initial heardLink heardAll expiredNow slottedNow settledIn sending later sent tick ticks emptyStation emptyMessage messageIn beforeSlot linkIn emptyPlace emptySeat placeIn stationIn sound decode refusal perform command follow schedule verdicts
 clauses = (refl, refl)

@@ -9,7 +9,7 @@ use Rattle.station.specs.Rules.{timeoutsOf, started, crashed, joined, adopted, 
 use Rattle.station.specs.Fit.{ranges, keptIn, cleared, countsIn, timeoutsIn, alive, slotIn, timerIn, standing, fit}
 use Rattle.election.specs.System.{messages, holding, fresh, initial}
 use Rattle.election.specs.Tick.{heardLink, heardAll, expiredNow, slottedNow, settled as settledIn, sending, later, sent, tick, ticks}
-use Rattle.election.specs.Sound.{emptyStation, emptyMessage, messageIn, beforeSlot, linkIn, placeIn, stationIn, sound}
+use Rattle.election.specs.Sound.{emptyStation, emptyMessage, messageIn, beforeSlot, linkIn, emptyPlace, emptySeat, placeIn, stationIn, sound}
 use Rattle.election.specs.Commands.{decode, refusal, perform, command}
 use Rattle.election.specs.Schedule.{follow, schedule}
 use Rattle.election.specs.Listing.{digits, vector, stationLine, stationLines, aLeader, dark, agreed, verdict, listing, reported, endLine, reports, output}
@@ -17,7 +17,7 @@ use Rattle.election.specs.Rehearsals.{Rehearsed, NoneOfTheErrors}
 
 -- every rule, to be unfolded
 rules : Unit {0}
-unfolding countTo upTo over each allTo before timeoutsOf started crashed joined adopted settled heard expired slotted ranges keptIn cleared countsIn timeoutsIn alive slotIn timerIn standing fit messages holding fresh initial heardLink heardAll expiredNow slottedNow settledIn sending later sent tick ticks emptyStation emptyMessage messageIn beforeSlot linkIn placeIn stationIn sound decode refusal perform command follow schedule
+unfolding countTo upTo over each allTo before timeoutsOf started crashed joined adopted settled heard expired slotted ranges keptIn cleared countsIn timeoutsIn alive slotIn timerIn standing fit messages holding fresh initial heardLink heardAll expiredNow slottedNow settledIn sending later sent tick ticks emptyStation emptyMessage messageIn beforeSlot linkIn emptyPlace emptySeat placeIn stationIn sound decode refusal perform command follow schedule
 rules = tt
 
 pub errors-ruled-out : NoneOfTheErrors

@@ -15,11 +15,11 @@ use Rattle.station.specs.declared.Station.{Station}
 use Rattle.station.proofs.Down.{down-cleared, down-fits}
 use Rattle.station.proofs.Vectors.{zeros-at}
 use Rattle.election.specs.Claims.{FreshSound}
-use Rattle.election.specs.Sound.{emptyStation, emptyMessage, messageAt, sound}
+use Rattle.election.specs.Sound.{emptyStation, emptyMessage, messageAt, emptyPlace, emptySeat, sound}
 use Rattle.election.specs.System.{places, noStation, noLink, station, place, from, to, delay, isLink, unstarted, holding, fresh, initial}
 use Rattle.election.proofs.Links.{Linked, holding-used, holding-rest, holding-linked, unused-empty}
 use Rattle.election.proofs.Places.{In, place-in, widen, at-link, is-link}
-use Rattle.election.proofs.Soundness.{Sound, emptySeat, emptyPlace}
+use Rattle.election.proofs.Soundness.{Sound}
 use Rattle.election.proofs.Spaced.{none}
 
 pub fresh-sound : FreshSound

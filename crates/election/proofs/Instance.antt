@@ -17,7 +17,7 @@ use Rattle.station.specs.Fit.{ranges, keptIn, cleared, countsIn, timeoutsIn, al
 use Rattle.election.specs.System.{station, messages, holding, underway, fresh, initial}
 use Rattle.election.specs.Tick.{heardLink, heardAll, expiredNow, slottedNow, sending, later, sent, tick, ticks}
 use Rattle.election.specs.Tick.{settled as settledIn}
-use Rattle.election.specs.Sound.{emptyStation, emptyMessage, messageIn, beforeSlot, linkIn, placeIn, stationIn, sound}
+use Rattle.election.specs.Sound.{emptyStation, emptyMessage, messageIn, beforeSlot, linkIn, emptyPlace, emptySeat, placeIn, stationIn, sound}
 use Rattle.election.specs.Commands.{decode, ruling, refusal, perform, command}
 use Rattle.election.specs.Schedule.{follow, schedule}
 use Rattle.election.specs.Listing.{agreed}
@@ -28,7 +28,7 @@ use Rattle.election.proofs.Decided.{every, implies, pairs, sentTest, ar
 
 -- every definition that is computed with: what unfolds this name unfolds them
 computing : Unit {0}
-unfolding countTo upTo over each maxTo allTo before timeoutsOf started crashed joined adopted settled heard expired slotted ranges keptIn cleared countsIn timeoutsIn alive slotIn timerIn standing fit messages holding fresh initial heardLink heardAll expiredNow slottedNow settledIn sending later sent tick ticks emptyStation emptyMessage messageIn beforeSlot linkIn placeIn stationIn sound decode refusal perform command follow schedule agreed after history starts isUp moments befores dividedTicks longestWait longestTimeout upHeads given every implies pairs sentTest arrivingTest eachTest permittedTest losesNoneTest firstTest found
+unfolding countTo upTo over each maxTo allTo before timeoutsOf started crashed joined adopted settled heard expired slotted ranges keptIn cleared countsIn timeoutsIn alive slotIn timerIn standing fit messages holding fresh initial heardLink heardAll expiredNow slottedNow settledIn sending later sent tick ticks emptyStation emptyMessage messageIn beforeSlot linkIn emptyPlace emptySeat placeIn stationIn sound decode refusal perform command follow schedule agreed after history starts isUp moments befores dividedTicks longestWait longestTimeout upHeads given every implies pairs sentTest arrivingTest eachTest permittedTest losesNoneTest firstTest found
 computing = tt
 
 -- the instance

@@ -11,7 +11,6 @@ use lib.Seq.{getD-append-add, getD-drop}
 use lib.Dec.{leb, ltb}
 use borrow.Author.Tests.{ltb-true, leb-true, lt-ltb, le-ltb, le-leb}
 use Rattle.lists.specs.Entries.{over}
-use Rattle.lists.specs.Test.{allTo}
 use Rattle.lists.proofs.Bools.{both, three, four}
 use Rattle.lists.proofs.Sets.{within-list}
 use Rattle.lists.proofs.Test.{all-at, all-of}
@@ -20,7 +19,7 @@ use Rattle.station.specs.declared.Station.{Station}
 use Rattle.station.proofs.Tests.{Counts, of-counts}
 use Rattle.station.proofs.Vectors.{zeros-at}
 use Rattle.election.specs.System.{places, longestDelay, noMessage, unused, messages, holding}
-use Rattle.election.specs.Sound.{emptyMessage, messageIn, beforeSlot, messageAt, linkIn}
+use Rattle.election.specs.Sound.{emptyMessage, messageIn, beforeSlot, messageAt, messagePlace, spaced, placesIn, ordered, linkIn}
 use Rattle.election.specs.declared.Link.{Link}
 use Rattle.election.specs.declared.Message.{Message}
 use Rattle.election.proofs.Spaced.{Spaced, spaced-at, spaced-apart, spaced-take}
@@ -65,42 +64,33 @@ pub record Linked (n period tick : ℕ) (sender : Station) (l : Link) : Type 0 w
   pub apart : (k : ℕ) → suc k < l .used → messageAt l k .sent + period ≤ messageAt l (suc k) .sent
 
 module _ (n period tick : ℕ) (sender : Station) (l : Link) where
-  posted : ℕ → Bool
-  posted k = messageIn n tick (messageAt l k) && beforeSlot period sender (messageAt l k)
-
-  spaced : ℕ → Bool
-  spaced k = leb (messageAt l k .sent + period) (messageAt l (k + 1) .sent)
-
   abbrev placed : ℕ → Bool
-  placed k = cond (ltb k (l .used)) (posted k) (emptyMessage (messageAt l k))
-
-  abbrev ordered : ℕ → Bool
-  ordered k = cond (ltb (k + 1) (l .used)) (spaced k) true
+  placed k = messagePlace n period tick sender (ltb k (l .used)) (messageAt l k)
 
   pub linked-of : linkIn n period tick sender l ≡ true → Linked n period tick sender l
-  unfolding linkIn posted spaced
+  unfolding linkIn
   linked-of e =
-      let (u, p, o) = three (leb (l .used) places) (allTo places placed) (allTo places ordered) e in
+      let (u, p, o) = three (leb (l .used) places) (placesIn n period tick sender l) (ordered period l) e in
       let few : l .used ≤ 4 = leb-true (l .used) places u in
       record {
         few = few;
-        held = λ k h. posted-of n period tick sender (messageAt l k) (ap (λ b. cond b (posted k) (emptyMessage (messageAt l k))) (sym (lt-ltb k (l .used) h)) ∙ all-at places k placed p (omega arith));
-        rest = λ k i h. ap (λ b. cond b (posted k) (emptyMessage (messageAt l k))) (sym (le-ltb k (l .used) h)) ∙ all-at places k placed p i;
+        held = λ k h. posted-of n period tick sender (messageAt l k) (rw (lt-ltb k (l .used) h) at (all-at places k placed p (omega arith)));
+        rest = λ k i h. rw (le-ltb k (l .used) h) at (all-at places k placed p i);
         apart = λ k h.
-            let z : spaced k ≡ true = ap (λ b. cond b (spaced k) true) (sym (lt-ltb (k + 1) (l .used) (omega arith))) ∙ all-at places k ordered o (omega arith) in
+            let z : leb (messageAt l k .sent + period) (messageAt l (k + 1) .sent) ≡ true = rw (lt-ltb (k + 1) (l .used) (omega arith)) at (all-at places k (spaced period l) o (omega arith)) in
             rw (sym (add-one k)) (leb-true (messageAt l k .sent + period) (messageAt l (k + 1) .sent) z);
       }
 
   pub of-linked : Linked n period tick sender l → linkIn n period tick sender l ≡ true
-  unfolding linkIn posted spaced
+  unfolding linkIn
   of-linked f =
-      rw (le-leb (l .used) places (f .few), all-of places placed (λ k h. at k h (decLt k (l .used))), all-of places ordered (λ k h. next k (decLt (k + 1) (l .used))))
+      rw (le-leb (l .used) places (f .few), all-of places placed (λ k h. at k h (decLt k (l .used))), all-of places (spaced period l) (λ k h. next k (decLt (k + 1) (l .used))))
     where
       at : (k : ℕ) → k < 4 → Dec (k < l .used) → placed k ≡ true
       at k h (yes i) = rw (lt-ltb k (l .used) i) (of-posted n period tick sender (messageAt l k) (f .held k i))
       at k h (no i) = rw (le-ltb k (l .used) (omega arith)) (f .rest k h (omega arith))
 
-      next : (k : ℕ) → Dec (k + 1 < l .used) → ordered k ≡ true
+      next : (k : ℕ) → Dec (k + 1 < l .used) → spaced period l k ≡ true
       next k (yes i) =
           rw (lt-ltb (k + 1) (l .used) i)
           (le-leb (messageAt l k .sent + period) (messageAt l (k + 1) .sent) (rw (add-one k) (f .apart k (omega arith))))

@@ -13,22 +13,14 @@ use Rattle.lists.specs.Test.{allTo}
 use Rattle.lists.proofs.Bools.{both, three, five}
 use Rattle.lists.proofs.Test.{all-at, all-of}
 use Rattle.station.specs.Fit.{lastTick, within, fit}
-use Rattle.station.specs.declared.Station.{Station}
 use Rattle.station.proofs.Tests.{within-of, of-within}
-use Rattle.election.specs.System.{places, longestDelay, noStation, noLink, station, place, from, to, delay, sentBy, messages, underway, isLink}
-use Rattle.election.specs.Sound.{emptyStation, emptyMessage, messageAt, linkIn, placeIn, stationIn, sound}
+use Rattle.election.specs.System.{longestDelay, noStation, noLink, station, place, from, to, delay, sentBy, messages, underway, isLink}
+use Rattle.election.specs.Sound.{linkIn, emptyPlaces, emptyPlace, emptySeat, placeIn, stationIn, sound}
 use Rattle.election.specs.declared.Link.{Link}
 use Rattle.election.specs.declared.System.{System}
 use Rattle.election.proofs.Links.{Posted, Linked, linked-of, of-linked, linked-spaced}
 use Rattle.election.proofs.Places.{In, seat-in, place-in, from-place, to-place, widen, is-link}
 use Rattle.election.proofs.Spaced.{Spaced}
-
--- a place with no station, and one with no link
-unfoldable pub emptySeat : Station → ℕ → Bool
-emptySeat x sent = emptyStation x && eqb sent 0
-
-unfoldable pub emptyPlace : ℕ → Link → Bool
-emptyPlace delay l = eqb delay 0 && eqb (l .used) 0 && allTo places (λ i. emptyMessage (messageAt l i))
 
 pub record Sound (s : System) : Type 0 where
   pub n-low : 2 ≤ s .n
@@ -76,7 +68,7 @@ module _ (s : System) where
       rw (from-place p q wp wq, to-place p q wp wq, is-link (s .n) p q hp hq ne)
 
   -- a system that is set up: every clause holds
-  clauses : s .ready ≡ true → sound s ≡ (within 2 (s .n) 8 && within 16 (s .period) 255 && leb (s .tick) lastTick && allTo 8 (stationIn s) && allTo 64 (placeIn s))
+  pub clauses : s .ready ≡ true → sound s ≡ (within 2 (s .n) 8 && within 16 (s .period) 255 && leb (s .tick) lastTick && allTo 8 (stationIn s) && allTo 64 (placeIn s))
   unfolding sound
   clauses u = rw u
 
@@ -146,5 +138,5 @@ module _ (s : System) (f : Sound s) where
       let k : ℕ = place p p in
       let l : Link = getD (s .links) k noLink in
       let none : isLink (s .n) (from k) (to k) ≡ false = rw (from-place p p w w, to-place p p w w) (no-self (s .n) p) in
-      let (a, b, c) = three (eqb (getD (s .delays) k 0) 0) (eqb (l .used) 0) (allTo places (λ i. emptyMessage (messageAt l i))) (f .no-link k (place-in p p w w) none) in
+      let (a, b, c) = three (eqb (getD (s .delays) k 0) 0) (eqb (l .used) 0) (emptyPlaces l) (f .no-link k (place-in p p w w) none) in
       ap (λ u. take u (l .messages)) (eqb-true (l .used) 0 b)

@@ -11,13 +11,14 @@ use borrow.Author.Tests.{eqb-false, le-ltb}
 use Rattle.lists.proofs.Bools.{cond-elim}
 use Rattle.lists.proofs.Entries.{getD-upTo}
 use Rattle.election.specs.Claims.{FourPlaces}
+use Rattle.election.specs.Sound.{emptyPlace, emptySeat}
 use Rattle.election.specs.System.{noStation, noLink, station, place, from, to, delay, sentBy, underway, isLink, holding}
 use Rattle.election.specs.Tick.{next, slottedNow, settled, sending, later, sent, underwayAfter, tick, ticks}
 use Rattle.election.specs.declared.Message.{Message}
 use Rattle.election.specs.declared.System.{System}
 use Rattle.election.proofs.Links.{Posted, Linked, holding-linked}
 use Rattle.election.proofs.Places.{In, tick-tick, tick-ready, tick-sent, tick-link}
-use Rattle.election.proofs.Soundness.{Sound, emptySeat, emptyPlace, sound-of, underway-spaced}
+use Rattle.election.proofs.Soundness.{Sound, sound-of, underway-spaced}
 use Rattle.election.proofs.Spaced.{Spaced, raise, respace, spaced-snoc, spaced-later, in-window}
 use Rattle.election.proofs.StationTick.{tick-fits, sends-counts}
 use Rattle.election.proofs.Steps.{sending-of, tick-up, tick-slotted, tick-slot}

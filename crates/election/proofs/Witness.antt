@@ -17,7 +17,7 @@ use Rattle.station.proofs.Down.{down-fits}
 use Rattle.station.proofs.Tests.{Ranges, fit-ranges}
 use Rattle.station.proofs.Vectors.{zeros-at}
 use Rattle.election.specs.Handed.{Holds, Finds, Runs}
-use Rattle.election.specs.Sound.{sound}
+use Rattle.election.specs.Sound.{emptyPlace, emptySeat, sound}
 use Rattle.election.specs.System.{noStation, noLink, station, place, from, to, delay, messages, holding, underway, isLink, unstarted}
 use Rattle.election.specs.declared.Message.{Message}
 use Rattle.election.specs.declared.System.{System}
@@ -25,7 +25,7 @@ use Rattle.election.proofs.Carries.{Inbox, noMail, no-mail}
 use Rattle.election.proofs.InitialSound.{empty-linked, empty-place, empty-seat}
 use Rattle.election.proofs.Links.{Linked, holding-linked}
 use Rattle.election.proofs.Places.{In, place-in, widen, at-link, messages-holding}
-use Rattle.election.proofs.Soundness.{emptySeat, emptyPlace, of-sound}
+use Rattle.election.proofs.Soundness.{of-sound}
 
 -- station p
 abbrev stood : ℕ → ℕ → Station → ℕ → Station

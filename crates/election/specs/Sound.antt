@@ -30,26 +30,57 @@ beforeSlot period sender m = cond (sender .up) (leb (m .sent + period) (sender .
 abbrev pub messageAt : Link → ℕ → Message
 messageAt l k = getD (l .messages) k noMessage
 
--- the used places hold messages, oldest first and sendings at least a period apart; the others are zero
+-- a place of a link: a message if it is used, else zero
+abbrev pub messagePlace : ℕ → ℕ → ℕ → Station → Bool → Message → Bool
+messagePlace n period tick sender used m = cond used (messageIn n tick m && beforeSlot period sender m) (emptyMessage m)
+
+-- the used places hold messages, and the others are zero
+abbrev pub placesIn : ℕ → ℕ → ℕ → Station → Link → Bool
+placesIn n period tick sender l = allTo places (λ k. messagePlace n period tick sender (ltb k (l .used)) (messageAt l k))
+
+-- two sendings are at least a period apart
+abbrev pub apart : ℕ → Message → Message → Bool
+apart period older younger = leb (older .sent + period) (younger .sent)
+
+-- the message at place k and the one after it are, if there is one
+abbrev pub spaced : ℕ → Link → ℕ → Bool
+spaced period l k = cond (ltb (k + 1) (l .used)) (apart period (messageAt l k) (messageAt l (k + 1))) true
+
+-- the messages stand oldest first, with sendings at least a period apart
+abbrev pub ordered : ℕ → Link → Bool
+ordered period l = allTo places (spaced period l)
+
+-- a link between two stations, of at most four messages
 unfoldable pub linkIn : ℕ → ℕ → ℕ → Station → Link → Bool
-linkIn n period tick sender l =
-    leb (l .used) places
-    && allTo places (λ k. cond (ltb k (l .used)) (messageIn n tick (messageAt l k) && beforeSlot period sender (messageAt l k)) (emptyMessage (messageAt l k)))
-    && allTo places (λ k. cond (ltb (k + 1) (l .used)) (leb (messageAt l k .sent + period) (messageAt l (k + 1) .sent)) true)
+linkIn n period tick sender l = leb (l .used) places && placesIn n period tick sender l && ordered period l
 
--- a link between two stations, and any other place, which is zero
+-- all places of a link are zero
+abbrev pub emptyPlaces : Link → Bool
+emptyPlaces l = allTo places (λ k. emptyMessage (messageAt l k))
+
+-- a place of no link is zero, and so is a place of no station
+unfoldable pub emptyPlace : ℕ → Link → Bool
+emptyPlace delay l = eqb delay 0 && eqb (l .used) 0 && emptyPlaces l
+
+unfoldable pub emptySeat : Station → ℕ → Bool
+emptySeat x sent = emptyStation x && eqb sent 0
+
+-- the place of the link from p to q: its delay and messages, or zero if that is no link between two stations
+abbrev pub linkPlace : ℕ → ℕ → ℕ → ℕ → ℕ → ℕ → Station → Link → Bool
+linkPlace n period tick p q delay sender l =
+    cond (isLink n p q) (leb delay longestDelay && linkIn n period tick sender l) (emptyPlace delay l)
+
+-- place k of the stations: a station and its sent count, or zero beyond the stations
+abbrev pub stationPlace : ℕ → ℕ → ℕ → ℕ → Station → ℕ → Bool
+stationPlace n period tick k x sent =
+    cond (ltb k n) (fit (k + 1) n period tick x && leb sent (7 * tick)) (emptySeat x sent)
+
+-- the places of a system's links and stations
 unfoldable pub placeIn : System → ℕ → Bool
-placeIn s k =
-    cond (isLink (s .n) (from k) (to k))
-    (leb (getD (s .delays) k 0) longestDelay && linkIn (s .n) (s .period) (s .tick) (station s (from k)) (getD (s .links) k noLink))
-    (eqb (getD (s .delays) k 0) 0 && eqb (getD (s .links) k noLink .used) 0 && allTo places (λ i. emptyMessage (messageAt (getD (s .links) k noLink) i)))
+placeIn s k = linkPlace (s .n) (s .period) (s .tick) (from k) (to k) (getD (s .delays) k 0) (station s (from k)) (getD (s .links) k noLink)
 
--- a station and its sent count, and any other place, which is zero
 unfoldable pub stationIn : System → ℕ → Bool
-stationIn s k =
-    cond (ltb k (s .n))
-    (fit (k + 1) (s .n) (s .period) (s .tick) (getD (s .stations) k noStation) && leb (getD (s .sent) k 0) (7 * s .tick))
-    (emptyStation (getD (s .stations) k noStation) && eqb (getD (s .sent) k 0) 0)
+stationIn s k = stationPlace (s .n) (s .period) (s .tick) k (getD (s .stations) k noStation) (getD (s .sent) k 0)
 
 -- a system that is not set up is sound; otherwise every clause holds
 unfoldable pub sound : System → Bool

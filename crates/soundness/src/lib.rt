@@ -1,13 +1,10 @@
 // Whether a system is sound: every clause of document 01's list, tested. No sum in the tests wraps.
 ghost use mathlib.Core.Path.{_≡_};
-ghost use mathlib.Core.Bool.{true, cond, _&&_};
-ghost use Prim.Native.Nat.{ℕ, _+_, _*_, _<_, _≤_};
-ghost use lib.Dec.{leb, ltb, eqb};
-ghost use lib.ListN.{getD};
+ghost use Prim.Native.Nat.{_<_, _≤_};
+ghost use lib.Dec.{ltb};
 ghost use Rattle.lists.specs.Test.{allTo};
-ghost use Rattle.election.specs.System.{noStation, noLink, station, from, to, isLink};
-ghost use Rattle.election.specs.Sound.{emptyStation, emptyMessage, messageIn, beforeSlot, messageAt, linkIn, placeIn, stationIn, sound};
-ghost use Rattle.soundness.specs.Parts.{used, spaced, ordered, placed, emptyPlaces, seated, linked};
+ghost use Rattle.election.specs.System.{isLink};
+ghost use Rattle.election.specs.Sound.{emptyStation, emptyMessage, messageIn, beforeSlot, messagePlace, apart, spaced, placesIn, ordered, linkIn, emptyPlaces, linkPlace, stationPlace, placeIn, stationIn, sound};
 use election::Link;
 use election::Message;
 use election::System;
@@ -51,8 +48,16 @@ fn before_slot(period: u32, sender: Station, m: Message) -> bool
 }
 
 // Whether place k of a link holds a message, or is zero where it is unused.
-fn used(n: u8, period: u32, tick: u32, sender: Station, count: u8, k: usize, m: Message) -> bool
-    ensures { λ r. ⌜ r ≡ used n period tick sender count k m ⌝ }
+fn message_place(
+    n: u8,
+    period: u32,
+    tick: u32,
+    sender: Station,
+    count: u8,
+    k: usize,
+    m: Message,
+) -> bool
+    ensures { λ r. ⌜ r ≡ messagePlace n period tick sender (ltb k count) m ⌝ }
 {
     if k < count as usize {
         message_in(n, tick, m) & before_slot(period, sender, m)
@@ -62,12 +67,12 @@ fn used(n: u8, period: u32, tick: u32, sender: Station, count: u8, k: usize, m: 
 }
 
 // Whether all places of a link hold messages as far as they are used, and are zero beyond.
-fn placed(n: u8, period: u32, tick: u32, sender: Station, l: Link) -> bool
-    ensures { λ r. ⌜ r ≡ placed n period tick sender l ⌝ }
+fn places_in(n: u8, period: u32, tick: u32, sender: Station, l: Link) -> bool
+    ensures { λ r. ⌜ r ≡ placesIn n period tick sender l ⌝ }
 {
     let ms = l.messages;
     for k in 0..4 {
-        if !used(n, period, tick, sender, l.used, k, ms[k]) {
+        if !message_place(n, period, tick, sender, l.used, k, ms[k]) {
             return false;
         }
     }
@@ -76,7 +81,7 @@ fn placed(n: u8, period: u32, tick: u32, sender: Station, l: Link) -> bool
 
 // Whether two sendings lie at least a period apart.
 fn apart(period: u32, older: Message, younger: Message) -> bool
-    ensures { λ r. ⌜ r ≡ leb (older .sent + period) (younger .sent) ⌝ }
+    ensures { λ r. ⌜ r ≡ apart period older younger ⌝ }
 {
     let first = wide(older.sent) + wide(period);
     first <= wide(younger.sent)
@@ -115,7 +120,7 @@ fn link_in(n: u8, period: u32, tick: u32, sender: Station, l: Link) -> bool
     if 4 < l.used {
         return false;
     }
-    placed(n, period, tick, sender, l) & ordered(period, l)
+    places_in(n, period, tick, sender, l) & ordered(period, l)
 }
 
 // Whether all places of a link are zero.
@@ -140,9 +145,18 @@ fn is_link(n: u8, p: u8, q: u8) -> bool
 }
 
 // Whether the place of the link from p to q is in range, with its delay and sender.
-fn linked(n: u8, period: u32, tick: u32, p: u8, q: u8, delay: u8, sender: Station, l: Link) -> bool
+fn link_place(
+    n: u8,
+    period: u32,
+    tick: u32,
+    p: u8,
+    q: u8,
+    delay: u8,
+    sender: Station,
+    l: Link,
+) -> bool
     requires { ⌜ (1 ≤ p) × (1 ≤ q) ⌝ }
-    ensures { λ r. ⌜ r ≡ linked n period tick p q delay sender l ⌝ }
+    ensures { λ r. ⌜ r ≡ linkPlace n period tick p q delay sender l ⌝ }
 {
     if is_link(n, p, q) {
         (delay <= 64) & link_in(n, period, tick, sender, l)
@@ -152,9 +166,9 @@ fn linked(n: u8, period: u32, tick: u32, p: u8, q: u8, delay: u8, sender: Statio
 }
 
 // Whether a place of the stations is in range, with its sent count.
-fn seated(n: u8, period: u32, tick: u32, k: u8, x: Station, sent: u32) -> bool
+fn station_place(n: u8, period: u32, tick: u32, k: u8, x: Station, sent: u32) -> bool
     requires { ⌜ k < 8 ⌝ }
-    ensures { λ r. ⌜ r ≡ seated n period tick k x sent ⌝ }
+    ensures { λ r. ⌜ r ≡ stationPlace n period tick k x sent ⌝ }
 {
     let most = 7 * wide(tick);
     if k < n {
@@ -169,7 +183,7 @@ fn stations_in(s: System) -> bool
     ensures { λ r. ⌜ r ≡ allTo 8 (stationIn s) ⌝ }
 {
     for k in 0..8 {
-        if !seated(s.n, s.period, s.tick, k as u8, s.stations[k], s.sent[k]) {
+        if !station_place(s.n, s.period, s.tick, k as u8, s.stations[k], s.sent[k]) {
             return false;
         }
     }
@@ -185,7 +199,7 @@ fn links_in(s: System) -> bool
         let q = k % 8;
         let from = p as u8 + 1;
         let to = q as u8 + 1;
-        if !linked(
+        if !link_place(
             s.n,
             s.period,
             s.tick,

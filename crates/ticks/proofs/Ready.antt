@@ -17,12 +17,13 @@ use Rattle.station.specs.declared.Station.{Station}
 use Rattle.station.proofs.Keeps.{during-expires}
 use Rattle.station.proofs.Safe.{expire-safe}
 use Rattle.station.proofs.Tests.{Timeouts, timeouts-of, fit-of, fit-down}
+use Rattle.election.specs.Sound.{emptyPlace}
 use Rattle.election.specs.System.{noStation, noLink, station, place, underway}
 use Rattle.election.specs.Tick.{heardLink, heardAll}
 use Rattle.election.specs.declared.Link.{Link}
 use Rattle.election.specs.declared.System.{System}
 use Rattle.election.proofs.Places.{In, seat-in, widen, place-in, from-place, to-place}
-use Rattle.election.proofs.Soundness.{Sound, emptyPlace, no-self, sound-of}
+use Rattle.election.proofs.Soundness.{Sound, no-self, sound-of}
 use Rattle.election.proofs.StationTick.{heard-timely}
 use Rattle.ticks.specs.Sending.{Ticking}
 

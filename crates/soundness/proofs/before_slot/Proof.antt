@@ -7,28 +7,22 @@ use Rattle.soundness.proofs.before_slot.Reads as reads
 use Rattle.soundness.proofs.before_slot.Lts as lts
 use Rattle.station.proofs.fit.wide.Reads as wide-reads
 
--- src/lib.rt:48:17
 wide-requires : tie.Need-wide-requires
 wide-requires c κs = search needs
 
--- src/lib.rt:48:32
 wide-requires-2 : tie.Need-wide-requires-2
 wide-requires-2 c κs = search needs
 
--- src/lib.rt:48:17
 add-first : tie.Need-add-first
 add-first c = search needs
 
--- src/lib.rt:49:9
 wide-requires-3 : tie.Need-wide-requires-3
 wide-requires-3 c κs = search needs
 
--- src/lib.rt:45:1
 returns : tie.Need-returns
 unfolding beforeSlot
 returns c = rw (c .if1 .taken) (cc)
 
--- src/lib.rt:45:1
 returns-2 : tie.Need-returns-2
 unfolding beforeSlot
 returns-2 c = rw (c .if1 .left)

@@ -7,11 +7,9 @@ use Rattle.soundness.proofs.empty_message.Reads as reads
 use Rattle.soundness.proofs.empty_message.Lts as lts
 use Rattle.station.proofs.fit.counts_in.Reads as counts-in-reads
 
--- src/lib.rt:32:36
 counts-in-requires : tie.Need-counts-in-requires
 counts-in-requires c κs = search needs
 
--- src/lib.rt:28:1
 returns : tie.Need-returns
 unfolding emptyMessage
 returns c = cc

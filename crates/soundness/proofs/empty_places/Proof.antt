@@ -9,7 +9,6 @@ use Rattle.lists.proofs.Test.{all-none, all-turn, all-not}
 use lib.ListN.{getD}
 use Rattle.election.specs.System.{noMessage}
 use Rattle.election.specs.Sound.{emptyMessage}
-use Rattle.soundness.specs.Parts.{emptyPlaces}
 use borrow.Author.Needs.{needs}
 use Rattle.soundness.proofs.empty_places.Statement.{statement}
 use Rattle.soundness.proofs.empty_places.Tie as tie
@@ -23,42 +22,31 @@ Inv-loop ms k₀ k = (k ≤ 4) × (allTo k (λ i. emptyMessage (getD ms i noMess
 abbrev μ-loop : tie.MeasureT-loop
 μ-loop ms k₀ k = 4 - k
 
--- src/lib.rt:126:5
 loop-holds : tie.Need-loop-holds Inv-loop μ-loop
 loop-holds c = (search needs, all-none _)
 
--- src/lib.rt:127:27
 mul-empty-message : tie.Need-mul-empty-message Inv-loop μ-loop
 mul-empty-message c = search needs
 
--- src/lib.rt:127:27
 array-copy-out-empty-message : tie.Need-array-copy-out-empty-message Inv-loop μ-loop
 array-copy-out-empty-message c = search needs
 
--- src/lib.rt:127:13
 empty-message-requires : tie.Need-empty-message-requires Inv-loop μ-loop
 empty-message-requires c κs = search needs
 
--- src/lib.rt:128:13
 returns : tie.Need-returns Inv-loop μ-loop
-unfolding emptyPlaces
 returns c = sym (all-not 4 _ _ (c .before .before .before .loop-test .taken) (fails (c .before .empty-message .ensures) (c .if1 .taken)))
 
--- src/lib.rt:126:9
 add-k : tie.Need-add-k Inv-loop μ-loop
 add-k c = search needs
 
--- src/lib.rt:126:5
 loop-less : tie.Need-loop-less Inv-loop μ-loop
 loop-less c = search needs
 
--- src/lib.rt:126:5
 loop-again : tie.Need-loop-again Inv-loop μ-loop
 loop-again c = (search needs, all-turn _ _ (c .before .before .before .before .loop .inv .1) (holds (c .before .empty-message .ensures) (c .if1 .left)))
 
--- src/lib.rt:122:1
 returns-2 : tie.Need-returns-2 Inv-loop μ-loop
-unfolding emptyPlaces
 returns-2 c = let e : c .before .loop .k ≡ 4 = omega arith in sym (rw e at (c .before .loop .inv .1))
 
 pub empty-places-spec : {M : Type 1} → statement M

@@ -7,11 +7,9 @@ use Rattle.soundness.proofs.empty_station.Reads as reads
 use Rattle.soundness.proofs.empty_station.Lts as lts
 use Rattle.station.proofs.fit.cleared.Reads as cleared-reads
 
--- src/lib.rt:24:54
 cleared-requires : tie.Need-cleared-requires
 cleared-requires c κs = search needs
 
--- src/lib.rt:21:1
 returns : tie.Need-returns
 unfolding emptyStation
 returns c = cc

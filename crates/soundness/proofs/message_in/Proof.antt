@@ -8,23 +8,18 @@ use Rattle.soundness.proofs.message_in.Lts as lts
 use Rattle.station.proofs.fit.counts_in.Reads as counts-in-reads
 use Rattle.station.proofs.fit.wide.Reads as wide-reads
 
--- src/lib.rt:40:16
 wide-requires : tie.Need-wide-requires
 wide-requires c κs = search needs
 
--- src/lib.rt:40:16
 add-last : tie.Need-add-last
 add-last c = search needs
 
--- src/lib.rt:41:42
 wide-requires-2 : tie.Need-wide-requires-2
 wide-requires-2 c κs = search needs
 
--- src/lib.rt:41:65
 counts-in-requires : tie.Need-counts-in-requires
 counts-in-requires c κs = search needs
 
--- src/lib.rt:36:1
 returns : tie.Need-returns
 unfolding messageIn
 returns c = cc

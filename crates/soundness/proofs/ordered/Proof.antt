@@ -6,7 +6,7 @@ use native.Mathlib.Omega.{arith}
 use Rattle.lists.proofs.Bools.{holds, fails}
 use Rattle.lists.specs.Test.{allTo}
 use Rattle.lists.proofs.Test.{all-none, all-turn, all-not}
-use Rattle.soundness.specs.Parts.{ordered, spaced}
+use Rattle.election.specs.Sound.{spaced}
 use borrow.Author.Needs.{needs}
 use Rattle.soundness.proofs.ordered.Statement.{statement}
 use Rattle.soundness.proofs.ordered.Tie as tie
@@ -20,34 +20,25 @@ Inv-loop period l k₀ k = (k ≤ 4) × (allTo k (spaced period l) ≡ true)
 abbrev μ-loop : tie.MeasureT-loop
 μ-loop period l k₀ k = 4 - k
 
--- src/lib.rt:103:5
 loop-holds : tie.Need-loop-holds Inv-loop μ-loop
 loop-holds c = (search needs, all-none _)
 
--- src/lib.rt:104:13
 spaced-requires : tie.Need-spaced-requires Inv-loop μ-loop
 spaced-requires c κs = search needs
 
--- src/lib.rt:105:13
 returns : tie.Need-returns Inv-loop μ-loop
-unfolding ordered
 returns c = sym (all-not 4 _ _ (c .before .before .loop-test .taken) (fails (c .before .spaced .ensures) (c .if1 .taken)))
 
--- src/lib.rt:103:9
 add-k : tie.Need-add-k Inv-loop μ-loop
 add-k c = search needs
 
--- src/lib.rt:103:5
 loop-less : tie.Need-loop-less Inv-loop μ-loop
 loop-less c = search needs
 
--- src/lib.rt:103:5
 loop-again : tie.Need-loop-again Inv-loop μ-loop
 loop-again c = (search needs, all-turn _ _ (c .before .before .before .loop .inv .1) (holds (c .before .spaced .ensures) (c .if1 .left)))
 
--- src/lib.rt:99:1
 returns-2 : tie.Need-returns-2 Inv-loop μ-loop
-unfolding ordered
 returns-2 c = let e : c .before .loop .k ≡ 4 = omega arith in sym (rw e at (c .before .loop .inv .1))
 
 pub ordered-spec : {M : Type 1} → statement M

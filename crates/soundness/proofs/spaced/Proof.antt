@@ -7,43 +7,33 @@ use Rattle.soundness.proofs.spaced.Reads as reads
 use Rattle.soundness.proofs.spaced.Lts as lts
 use Rattle.soundness.proofs.apart.Reads as apart-reads
 
--- src/lib.rt:91:8
 add-if1 : tie.Need-add-if1
 add-if1 c = search needs
 
--- src/lib.rt:91:16
 cast-if1 : tie.Need-cast-if1
 cast-if1 c = search needs
 
--- src/lib.rt:92:23
 mul-apart : tie.Need-mul-apart
 mul-apart c = search needs
 
--- src/lib.rt:92:23
 array-copy-out-apart : tie.Need-array-copy-out-apart
 array-copy-out-apart c = search needs
 
--- src/lib.rt:92:33
 add-apart : tie.Need-add-apart
 add-apart c = search needs
 
--- src/lib.rt:92:30
 mul-apart-2 : tie.Need-mul-apart-2
 mul-apart-2 c = search needs
 
--- src/lib.rt:92:30
 array-copy-out-apart-2 : tie.Need-array-copy-out-apart-2
 array-copy-out-apart-2 c = search needs
 
--- src/lib.rt:92:9
 apart-requires : tie.Need-apart-requires
 apart-requires c κs = search needs
 
--- src/lib.rt:86:1
 returns : tie.Need-returns
 returns c = rw (lt-ltb _ _ (c .before .before .before .if1 .taken)) (cc)
 
--- src/lib.rt:86:1
 returns-2 : tie.Need-returns-2
 returns-2 c = rw (le-ltb _ _ (c .if1 .left))
 

@@ -1,5 +1,5 @@
 -- The function stations_in meets its contract.
-use mathlib.Core.Path.{_≡_, sym, _∙_}
+use mathlib.Core.Path.{_≡_, sym}
 use mathlib.Core.Bool.{true}
 use Prim.Native.Nat.{_-_, _≤_}
 use native.Mathlib.Omega.{arith}
@@ -7,13 +7,12 @@ use Rattle.lists.proofs.Bools.{holds, fails}
 use Rattle.lists.specs.Test.{allTo}
 use Rattle.lists.proofs.Test.{all-none, all-turn, all-not}
 use Rattle.election.specs.Sound.{stationIn}
-use Rattle.soundness.proofs.Seats.{seat-is}
 use borrow.Author.Needs.{needs}
 use Rattle.soundness.proofs.stations_in.Statement.{statement}
 use Rattle.soundness.proofs.stations_in.Tie as tie
 use Rattle.soundness.proofs.stations_in.Reads as reads
 use Rattle.soundness.proofs.stations_in.Lts as lts
-use Rattle.soundness.proofs.seated.Reads as seated-reads
+use Rattle.soundness.proofs.station_place.Reads as station-place-reads
 
 abbrev Inv-loop : tie.InvT-loop
 Inv-loop s k₀ k = (k ≤ 8) × (allTo k (stationIn s) ≡ true)
@@ -21,51 +20,41 @@ Inv-loop s k₀ k = (k ≤ 8) × (allTo k (stationIn s) ≡ true)
 abbrev μ-loop : tie.MeasureT-loop
 μ-loop s k₀ k = 8 - k
 
--- src/lib.rt:171:5
 loop-holds : tie.Need-loop-holds Inv-loop μ-loop
 loop-holds c = (search needs, all-none _)
 
--- src/lib.rt:172:43
-cast-seated : tie.Need-cast-seated Inv-loop μ-loop
-cast-seated c = search needs
+cast-station-place : tie.Need-cast-station-place Inv-loop μ-loop
+cast-station-place c = search needs
 
--- src/lib.rt:172:52
-mul-seated : tie.Need-mul-seated Inv-loop μ-loop
-mul-seated c = search needs
+mul-station-place : tie.Need-mul-station-place Inv-loop μ-loop
+mul-station-place c = search needs
 
--- src/lib.rt:172:52
-element-copy-out-seated : tie.Need-element-copy-out-seated Inv-loop μ-loop
-element-copy-out-seated c = search needs
+element-copy-out-station-place : tie.Need-element-copy-out-station-place Inv-loop μ-loop
+element-copy-out-station-place c = search needs
 
--- src/lib.rt:172:67
-mul-seated-2 : tie.Need-mul-seated-2 Inv-loop μ-loop
-mul-seated-2 c = search needs
+mul-station-place-2 : tie.Need-mul-station-place-2 Inv-loop μ-loop
+mul-station-place-2 c = search needs
 
--- src/lib.rt:172:67
-element-copy-out-seated-2 : tie.Need-element-copy-out-seated-2 Inv-loop μ-loop
-element-copy-out-seated-2 c = search needs
+element-copy-out-station-place-2 : tie.Need-element-copy-out-station-place-2 Inv-loop μ-loop
+element-copy-out-station-place-2 c = search needs
 
--- src/lib.rt:172:13
-seated-requires : tie.Need-seated-requires Inv-loop μ-loop
-seated-requires c κs = search needs
+station-place-requires : tie.Need-station-place-requires Inv-loop μ-loop
+station-place-requires c κs = search needs
 
--- src/lib.rt:173:13
 returns : tie.Need-returns Inv-loop μ-loop
-returns c = sym (all-not 8 _ _ (c .before .before .before .before .loop-test .taken) (sym (seat-is _ _) ∙ fails (c .before .seated .ensures) (c .if1 .taken)))
+unfolding stationIn
+returns c = sym (all-not 8 _ _ (c .before .before .before .before .loop-test .taken) (fails (c .before .station-place .ensures) (c .if1 .taken)))
 
--- src/lib.rt:171:9
 add-k : tie.Need-add-k Inv-loop μ-loop
 add-k c = search needs
 
--- src/lib.rt:171:5
 loop-less : tie.Need-loop-less Inv-loop μ-loop
 loop-less c = search needs
 
--- src/lib.rt:171:5
 loop-again : tie.Need-loop-again Inv-loop μ-loop
-loop-again c = (search needs, all-turn _ _ (c .before .before .before .before .before .loop .inv .1) (sym (seat-is _ _) ∙ holds (c .before .seated .ensures) (c .if1 .left)))
+unfolding stationIn
+loop-again c = (search needs, all-turn _ _ (c .before .before .before .before .before .loop .inv .1) (holds (c .before .station-place .ensures) (c .if1 .left)))
 
--- src/lib.rt:168:1
 returns-2 : tie.Need-returns-2 Inv-loop μ-loop
 returns-2 c = let e : c .before .loop .k ≡ 8 = omega arith in sym (rw e at (c .before .loop .inv .1))
 
@@ -76,12 +65,12 @@ stations-in-spec =
     Inv-loop
     μ-loop
     loop-holds
-    cast-seated
-    mul-seated
-    element-copy-out-seated
-    mul-seated-2
-    element-copy-out-seated-2
-    seated-requires
+    cast-station-place
+    mul-station-place
+    element-copy-out-station-place
+    mul-station-place-2
+    element-copy-out-station-place-2
+    station-place-requires
     returns
     add-k
     loop-less
