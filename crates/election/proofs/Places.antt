@@ -10,7 +10,7 @@ use lib.Dec.{ltb}
 use borrow.Author.Tests.{lt-ltb, ne-eqb}
 use Rattle.lists.specs.Entries.{upTo}
 use Rattle.lists.proofs.Entries.{getD-upTo, take-over}
-use Rattle.election.specs.System.{noStation, noLink, station, place, from, to, delay, sentBy, messages, holding, underway, isLink}
+use Rattle.election.specs.System.{noStation, noLink, station, place, from, to, sentBy, messages, holding, underway, isLink}
 use Rattle.election.specs.Tick.{next, slottedNow, settled, sending, underwayAfter, tick}
 use Rattle.election.specs.declared.Message.{Message}
 use Rattle.election.specs.declared.System.{System}
@@ -66,17 +66,9 @@ module _ (s : System) where
   unfolding tick
   tick-n = refl
 
-  pub tick-period : tick s .period ≡ s .period
-  unfolding tick
-  tick-period = refl
-
   pub tick-ready : tick s .ready ≡ s .ready
   unfolding tick
   tick-ready = refl
-
-  pub tick-delay : (p q : ℕ) → delay (tick s) p q ≡ delay s p q
-  unfolding tick
-  tick-delay p q = refl
 
   module _ (n-high : s .n ≤ 8) where
     pub tick-station : (p : ℕ) → In (s .n) p → station (tick s) p ≡ slottedNow (s .period) (next s) (settled s p)
