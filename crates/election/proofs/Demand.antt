@@ -9,7 +9,7 @@ use native.Mathlib.Decide.{ℕ-discrete}
 use native.Mathlib.Nat.{zero-add}
 use native.Mathlib.Omega.{arith}
 use lib.Dec.{eqb, ltb}
-use lib.ListN.{length, take, drop}
+use lib.ListN.{length, getD, take, drop}
 use borrow.Author.Tests.{not-false, eqb-true, eq-eqb}
 use Rattle.lists.specs.Every.{All}
 use Rattle.lists.specs.First.{firstFailed}
@@ -18,11 +18,11 @@ use Rattle.lists.proofs.Every.{all-append}
 use Rattle.lists.proofs.Test.{all-at}
 use Rattle.station.specs.declared.Station.{Station}
 use Rattle.election.specs.Commands.{Command, SetUp, Start, Crash, Link, Run, Lose, Report, decode, operands, tests, ruling, refusal, perform, command}
-use Rattle.election.specs.Listing.{agreed}
+use Rattle.election.specs.Listing.{trusts, agreed}
 use Rattle.election.specs.Schedule.{End, mostBytes, follow, schedule}
 use Rattle.election.specs.Settling.{accepted, after, history, commands, starts, isUp, moments, ticksOf, befores, divided, dividedTicks, Quiet, upHeads, bound, answered, given, reached, Settling}
 use Rattle.election.specs.Sound.{sound}
-use Rattle.election.specs.System.{station, fresh, initial}
+use Rattle.election.specs.System.{noStation, station, fresh, initial}
 use Rattle.election.specs.Tick.{sending, tick}
 use Rattle.election.specs.declared.System.{System}
 use Rattle.election.proofs.Accepting.{Accepts, accepts, ruling-tests}
@@ -74,12 +74,10 @@ unfolding agreed
 silent-tick L x small e p low high t =
     let ip : In (x .n) p = record { low = low; high = high } in
     let (u, sl, l) = sending-of x p t in
-    let back : p - 1 + 1 ≡ p = omega arith in
-    let all : agreed (tick x) L ≡ true = not-false (agreed (tick x) L) e in
-    let at : cond (station (tick x) (p - 1 + 1) .up) (eqb (station (tick x) (p - 1 + 1) .leader) L) true ≡ true =
-    all-at (tick x .n) (p - 1) (λ k. cond (station (tick x) (k + 1) .up) (eqb (station (tick x) (k + 1) .leader) L) true) all (omega (arith, tick-n x)) in
+    let all : agreed (tick x .n) (tick x .stations) L ≡ true = not-false (agreed (tick x .n) (tick x .stations) L) e in
+    let at : trusts L (station (tick x) p) ≡ true = all-at (tick x .n) (p - 1) (λ k. trusts L (getD (tick x .stations) k noStation)) all (omega (arith, tick-n x)) in
     let up : station (tick x) p .up ≡ true = tick-up x small p ip ∙ u in
-    let f : eqb (station (tick x) p .leader) L ≡ true = ap (λ b. cond b (eqb (station (tick x) p .leader) L) true) (sym up) ∙ rw back at at in
+    let f : eqb (station (tick x) p .leader) L ≡ true = ap (λ b. cond b (eqb (station (tick x) p .leader) L) true) (sym up) ∙ at in
     let leads : station (tick x) p .leader ≡ p = ap (λ (y : Station). y .leader) (tick-station x small p ip) ∙ slot-leader (x .period) (x .tick + 1) _ ∙ l in
     sym leads ∙ eqb-true _ _ f
 

@@ -24,6 +24,9 @@ pub record In (n p : ℕ) : Type 0 where
 pub seat-in : (n k : ℕ) → k < n → In n (k + 1)
 seat-in n k h = record { low = omega arith; high = omega arith }
 
+pub seat-of : (s : System) (k : ℕ) → station s (k + 1) ≡ getD (s .stations) k noStation
+seat-of s k = let e : k + 1 - 1 ≡ k = omega arith in rw e
+
 -- a link's place, and the link at it
 module _ (p q : ℕ) (hp : In 8 p) (hq : In 8 q) where
   pub place-in : place p q < 64

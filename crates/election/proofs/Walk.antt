@@ -7,15 +7,16 @@ use Prim.Native.Nat.{ℕ, zero, suc, _+_, _≤_, _<_, zero-le}
 use native.Mathlib.Nat.{le-of-eq, le-trans}
 use native.Mathlib.Omega.{arith}
 use lib.Dec.{eqb}
+use lib.ListN.{getD}
 use borrow.Author.Tests.{eqb-true}
 use Rattle.lists.specs.Every.{All}
 use Rattle.lists.specs.Test.{allTo}
 use Rattle.lists.proofs.Every.{all-left, all-right}
 use Rattle.lists.proofs.Test.{all-same}
 use Rattle.election.specs.Commands.{Command, SetUp, Start, Crash, Link, Run, Lose, Report, decode, withDelay, withoutMessages, perform}
-use Rattle.election.specs.Listing.{agreed}
+use Rattle.election.specs.Listing.{trusts, agreed}
 use Rattle.election.specs.Settling.{accepted, after, moments, ticksOf, befores, divided, dividedTicks, Permitted, LosesNone, Each, Sent}
-use Rattle.election.specs.System.{station, delay, underway}
+use Rattle.election.specs.System.{noStation, station, delay, underway}
 use Rattle.election.specs.Tick.{tick, ticks}
 use Rattle.election.specs.declared.Message.{Message}
 use Rattle.election.specs.declared.System.{System}
@@ -24,7 +25,7 @@ use Rattle.election.proofs.Calm.{Stretch}
 use Rattle.election.proofs.Counting.{agrees, split, potOf, pots, Budget, pay-tick}
 use Rattle.election.proofs.Follower.{spare}
 use Rattle.election.proofs.Invariant.{Coming, END, Inv, Fine, soonest, in-s}
-use Rattle.election.proofs.Places.{In, seat-in, widen, tick-tick}
+use Rattle.election.proofs.Places.{In, seat-in, seat-of, widen, tick-tick}
 use Rattle.election.proofs.Potential.{potIf, Phase}
 use Rattle.election.proofs.Reaching.{lost-elim, lose-reached, delay-reached}
 use Rattle.election.proofs.Steps.{tick-up}
@@ -38,9 +39,9 @@ Says K x = (p : ℕ) → In (K .n) p → station x p .up ≡ K .steady p
 split-divided : (K : Stretch) (x : System) → x .n ≡ K .n → Says K x → cond (divided (K .L) x) 1 0 ≡ split K x
 unfolding agreed
 split-divided K x e says =
-    let same : agreed x (K .L) ≡ allTo (K .n) (agrees K x) =
-    ap (λ m. allTo m (λ k. cond (station x (k + 1) .up) (eqb (station x (k + 1) .leader) (K .L)) true)) e
-    ∙ all-same (K .n) _ (agrees K x) (λ k l. ap (λ b. cond b (eqb (station x (k + 1) .leader) (K .L)) true) (says (k + 1) (seat-in (K .n) k l))) in
+    let same : agreed (x .n) (x .stations) (K .L) ≡ allTo (K .n) (agrees K x) =
+    ap (λ m. allTo m (λ k. trusts (K .L) (getD (x .stations) k noStation))) e
+    ∙ all-same (K .n) _ (agrees K x) (λ k l. ap (trusts (K .L)) (sym (seat-of x k)) ∙ ap (λ b. cond b (eqb (station x (k + 1) .leader) (K .L)) true) (says (k + 1) (seat-in (K .n) k l))) in
     rw same (turn (allTo (K .n) (agrees K x)))
   where
     turn : (b : Bool) → cond (not b) 1 0 ≡ failed b

@@ -6,14 +6,18 @@ use lib.ListN.{length, getD, drop}
 use lib.Dec.{leb, ltb, eqb}
 use Rattle.lists.specs.Entries.{over}
 use Rattle.lists.specs.First.{firstFailed}
+use Rattle.lists.specs.Fold.{each}
+use Rattle.lists.specs.Join.{joinTo}
 use Rattle.lists.specs.Test.{allTo}
 use Rattle.station.specs.declared.Station.{Station}
 use Rattle.election.specs.Commands.{Result, command, refusalOf, lengthOf}
 use Rattle.election.specs.Schedule.{End, mostBytes, schedule}
 use Rattle.election.specs.Sound.{sound}
-use Rattle.election.specs.System.{fresh, station, sentBy}
+use Rattle.election.specs.System.{noStation, fresh}
 use Rattle.election.specs.declared.Answer.{Answer}
 use Rattle.election.specs.declared.System.{System}
+use Rattle.election.specs.declared.Verdict.{Verdict}
+use Rattle.election.specs.declared.Verdict.the-variants.{Dark, Agreed, Split}
 
 -- decimal digits of a number below 10^fuel
 unfoldable pub digits : ℕ → ℕ → List ℕ
@@ -74,50 +78,79 @@ refusedWord = 114 ∷ 101 ∷ 102 ∷ 117 ∷ 115 ∷ 101 ∷ 100 ∷ 32 ∷ []
 abbrev pub atWord : List ℕ
 atWord = 32 ∷ 97 ∷ 116 ∷ 32 ∷ []
 
+-- a word and a number
+abbrev pub named : List ℕ → ℕ → List ℕ
+named word x = word ++ decimal x
+
+-- the count at k, after a comma unless it is the first
+unfoldable pub countOf : ℕ → ℕ → List ℕ
+countOf k x = cond (eqb k 0) [] (44 ∷ []) ++ decimal x
+
 -- the first n counts, with commas between them
 unfoldable pub vector : ℕ → List ℕ → List ℕ
-vector zero v = []
-vector (suc k) v = vector k v ++ cond (eqb k 0) [] (44 ∷ []) ++ decimal (getD v k 0)
+vector n v = joinTo n (λ k. countOf k (getD v k 0))
 
--- station p: up or down, trusted leader, kept count, vector, sent, kept leader; a down one shows - for leader and vector
-unfoldable pub stationLine : System → ℕ → List ℕ
-stationLine s p =
-    let x : Station = station s p in
-    decimal p
-    ++ cond (x .up) upWord downWord
-    ++ leaderWord ++ cond (x .up) (decimal (x .leader)) noneWord
-    ++ incWord ++ decimal (x .incarnation)
-    ++ recWord ++ cond (x .up) (vector (s .n) (x .recovered)) noneWord
-    ++ sentWord ++ decimal (sentBy s p)
-    ++ keptWord ++ decimal (x .stable)
+-- the number of a station, and whether it is up
+unfoldable pub status : ℕ → Bool → List ℕ
+status p up = decimal p ++ cond up upWord downWord
+
+-- its trusted leader and its vector; a down one shows - for them
+unfoldable pub leaderOf : Bool → ℕ → List ℕ
+leaderOf up l = leaderWord ++ cond up (decimal l) noneWord
+
+unfoldable pub vectorOf : ℕ → Bool → List ℕ → List ℕ
+vectorOf n up v = recWord ++ cond up (vector n v) noneWord
+
+-- the line of station p: up or down, trusted leader, kept count, vector, sent, kept leader
+unfoldable pub stationLine : ℕ → ℕ → Station → ℕ → List ℕ
+stationLine n p x sent =
+    status p (x .up)
+    ++ leaderOf (x .up) (x .leader)
+    ++ named incWord (x .incarnation)
+    ++ vectorOf n (x .up) (x .recovered)
+    ++ named sentWord sent
+    ++ named keptWord (x .stable)
     ++ newline
 
--- the lines of stations 1 to k
-unfoldable pub stationLines : System → ℕ → List ℕ
-stationLines s zero = []
-stationLines s (suc k) = stationLines s k ++ stationLine s (k + 1)
+-- the lines of the first n stations
+unfoldable pub stationLines : ℕ → List Station → List ℕ → List ℕ
+stationLines n stations sent = joinTo n (λ k. stationLine n (k + 1) (getD stations k noStation) (getD sent k 0))
 
--- the leader of the last up station among the first k, 0 if none is up
-unfoldable pub aLeader : System → ℕ → ℕ
-aLeader s zero = 0
-aLeader s (suc k) = cond (station s (k + 1) .up) (station s (k + 1) .leader) (aLeader s k)
+-- none of the first n stations is up
+unfoldable pub dark : ℕ → List Station → Bool
+dark n stations = allTo n (λ k. not (getD stations k noStation .up))
 
--- no station is up; all up stations trust l
-unfoldable pub dark : System → Bool
-dark s = allTo (s .n) (λ k. not (station s (k + 1) .up))
+-- a station trusts l if it is up; all of the first n do
+abbrev pub trusts : ℕ → Station → Bool
+trusts l x = cond (x .up) (eqb (x .leader) l) true
 
-unfoldable pub agreed : System → ℕ → Bool
-agreed s l = allTo (s .n) (λ k. cond (station s (k + 1) .up) (eqb (station s (k + 1) .leader) l) true)
+unfoldable pub agreed : ℕ → List Station → ℕ → Bool
+agreed n stations l = allTo n (λ k. trusts l (getD stations k noStation))
+
+-- the leader of the last of them that is up, 0 if none is
+abbrev pub leaderAfter : Station → ℕ → ℕ
+leaderAfter x l = cond (x .up) (x .leader) l
+
+unfoldable pub aLeader : ℕ → List Station → ℕ
+aLeader n stations = each n (λ k l. leaderAfter (getD stations k noStation) l) 0
 
 -- dark if none is up, agreed L if all up stations trust the same L, else split
-unfoldable pub verdict : System → List ℕ
-verdict s =
-    let l : ℕ = aLeader s (s .n) in
-    cond (dark s) darkWord (cond (agreed s l) (agreedWord ++ decimal l) splitWord) ++ newline
+unfoldable pub verdict : ℕ → List Station → Verdict
+verdict n stations =
+    let l : ℕ = aLeader n stations in
+    cond (dark n stations) Dark (cond (agreed n stations l) (Agreed l) Split)
+
+unfoldable pub verdictLine : Verdict → List ℕ
+verdictLine Dark = darkWord ++ newline
+verdictLine (Agreed l) = agreedWord ++ decimal l ++ newline
+verdictLine Split = splitWord ++ newline
 
 -- the tick, a line for each station, and the verdict
 unfoldable pub listing : System → List ℕ
-listing s = tickWord ++ decimal (s .tick) ++ newline ++ stationLines s (s .n) ++ verdict s
+listing s =
+    tickWord ++ decimal (s .tick) ++ newline
+    ++ stationLines (s .n) (s .stations) (s .sent)
+    ++ verdictLine (verdict (s .n) (s .stations))
 
 -- what Listing leaves: the refusal, the length written, and the buffer
 pub record Listed : Type 0 where

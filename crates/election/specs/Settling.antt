@@ -90,7 +90,7 @@ befores (e ∷ es) s = cond (accepted s e) (ticksOf (decode e) s) [] ++ befores 
 
 -- at the end of a tick some up head doesn't trust L
 abbrev pub divided : ℕ → System → Bool
-divided L s = not (agreed s L)
+divided L s = not (agreed (s .n) (s .stations) L)
 
 -- how many ticks end divided, from the systems before them
 unfoldable pub dividedTicks : ℕ → List System → ℕ

@@ -59,6 +59,13 @@ pub enum Answer {
     Refused(Refusal),
 }
 
+// Whether no station is up, all up stations trust the same one, or they differ.
+pub enum Verdict {
+    Dark,
+    Agreed(u8),
+    Split,
+}
+
 // What a command answers, with the system.
 pub struct Commanded {
     pub answer: Answer,

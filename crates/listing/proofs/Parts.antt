@@ -10,7 +10,7 @@ use lib.Seq.{drop-drop, drop-at, take-at, take-suc, take-all}
 use borrow.Rule.Slice.PartMut.{putMid}
 use Rattle.lists.specs.Entries.{over}
 use Rattle.lists.proofs.Entries.{over-nil, over-snoc, length-over}
-use Rattle.listing.specs.Join.{joinTo}
+use Rattle.lists.specs.Join.{joinTo}
 use Rattle.listing.specs.Wrote.{Wrote}
 
 -- an entry more at the place after what was written

@@ -8,15 +8,14 @@ use lib.Dec.{eqb}
 use lib.ListN.{length, getD, length-append}
 use Rattle.station.specs.declared.Station.{Station}
 use Rattle.election.specs.System.{noStation}
-use Rattle.election.specs.Listing.{decimal, newline, upWord, downWord, noneWord, endWord, refusedWord, atWord, endLine}
-use Rattle.listing.specs.Join.{joinTo}
-use Rattle.listing.specs.Pieces.{countOf, counts, status, leaderOf, recOf, who, known, ends, line, lines}
-use Rattle.listing.specs.Verdicts.{verdictOf, verdictLine}
-use Rattle.listing.specs.declared.Verdict.{Verdict}
-use Rattle.listing.specs.declared.Verdict.the-variants.{Dark, Agreed, Split}
+use Rattle.election.specs.Listing.{decimal, newline, upWord, downWord, noneWord, endWord, refusedWord, atWord, countOf, vector, status, leaderOf, vectorOf, stationLine, stationLines, verdict, verdictLine, endLine}
+use Rattle.lists.specs.Join.{joinTo}
+use Rattle.listing.specs.Pieces.{who, known, ends}
+use Rattle.election.specs.declared.Verdict.{Verdict}
+use Rattle.election.specs.declared.Verdict.the-variants.{Dark, Agreed, Split}
 use Rattle.listing.specs.Room.{ListingRoom, EndRoom}
 use Rattle.listing.proofs.Digits.{length-decimal}
-use Rattle.listing.proofs.Same.{size-is}
+use Rattle.listing.proofs.Same.{line-is, size-is}
 
 -- one of two lists is at most as long as the longer
 either : (b : Bool) (x y : List ℕ) (most : ℕ) → length x ≤ most → length y ≤ most → length (cond b x y) ≤ most
@@ -28,8 +27,8 @@ unfolding joinTo
 joined f most zero h = omega arith
 joined f most (suc n) h = omega (arith, length-append (joinTo n f) (f n), joined f most n h, h n)
 
-counts-room : (n : ℕ) (v : List ℕ) → length (counts n v) ≤ n * 21
-unfolding counts countOf
+counts-room : (n : ℕ) (v : List ℕ) → length (vector n v) ≤ n * 21
+unfolding vector countOf
 counts-room n v = joined (λ k. countOf k (getD v k 0)) 21 n (λ k. simp length-append (omega (arith, either (eqb k 0) [] (44 ∷ []) 1 (omega arith) (omega arith), length-decimal (getD v k 0))))
 
 who-room : (p : ℕ) (x : Station) → length (who p x) ≤ 60
@@ -39,22 +38,21 @@ who-room p x =
     (omega (arith, length-decimal p, either (x .up) upWord downWord 5 (omega arith) (omega arith), either (x .up) (decimal (x .leader)) noneWord 20 (length-decimal (x .leader)) (omega arith)))
 
 known-room : (n : ℕ) (x : Station) → n ≤ 8 → length (known n x) ≤ 200
-unfolding known recOf
+unfolding known vectorOf
 known-room n x h =
     simp length-append
-    (omega (arith, length-decimal (x .incarnation), either (x .up) (counts n (x .recovered)) noneWord 168 (omega (arith, counts-room n (x .recovered))) (omega arith)))
+    (omega (arith, length-decimal (x .incarnation), either (x .up) (vector n (x .recovered)) noneWord 168 (omega (arith, counts-room n (x .recovered))) (omega arith)))
 
 ends-room : (sent : ℕ) (x : Station) → length (ends sent x) ≤ 60
 unfolding ends
 ends-room sent x = simp length-append (omega (arith, length-decimal sent, length-decimal (x .stable)))
 
-line-room : (n p : ℕ) (x : Station) (sent : ℕ) → n ≤ 8 → length (line n p x sent) ≤ 320
-unfolding line
-line-room n p x sent h = simp length-append (omega (arith, who-room p x, known-room n x h, ends-room sent x))
+line-room : (n p : ℕ) (x : Station) (sent : ℕ) → n ≤ 8 → length (stationLine n p x sent) ≤ 320
+line-room n p x sent h = rw (line-is n p x sent) (simp length-append (omega (arith, who-room p x, known-room n x h, ends-room sent x)))
 
-lines-room : (n : ℕ) (stations : List Station) (sent : List ℕ) → n ≤ 8 → length (lines n stations sent) ≤ n * 320
-unfolding lines
-lines-room n stations sent h = joined (λ k. line n (k + 1) (getD stations k noStation) (getD sent k 0)) 320 n (λ k. line-room n (k + 1) (getD stations k noStation) (getD sent k 0) h)
+lines-room : (n : ℕ) (stations : List Station) (sent : List ℕ) → n ≤ 8 → length (stationLines n stations sent) ≤ n * 320
+unfolding stationLines
+lines-room n stations sent h = joined (λ k. stationLine n (k + 1) (getD stations k noStation) (getD sent k 0)) 320 n (λ k. line-room n (k + 1) (getD stations k noStation) (getD sent k 0) h)
 
 verdict-room : (v : Verdict) → length (verdictLine v) ≤ 28
 unfolding verdictLine
@@ -64,7 +62,7 @@ verdict-room Split = omega arith
 
 pub listing-room : ListingRoom
 listing-room s h =
-    let v : Verdict = verdictOf (s .n) (s .stations) in
+    let v : Verdict = verdict (s .n) (s .stations) in
     omega (arith, size-is s v refl, length-decimal (s .tick), lines-room (s .n) (s .stations) (s .sent) h, verdict-room v)
 
 pub end-room : EndRoom

@@ -1,6 +1,4 @@
--- The listing in pieces, as the code writes it.
-pub mod Join
+-- The parts of a listing that the code writes in one go.
 pub mod Pieces
 pub mod Room
-pub mod Verdicts
 pub mod Wrote

@@ -12,13 +12,6 @@ pub mod rules;
 mod sizes;
 mod text;
 
-// Whether no station is up, all up stations trust the same one, or they differ.
-pub enum Verdict {
-    Dark,
-    Agreed(u8),
-    Split,
-}
-
 // Writes the listing of a system into the front of the buffer, or leaves the buffer as it is.
 pub fn listing(s: System, buffer: &mut [u8]) -> Answer
     ensures { λ r. ⌜ said r (now (buffer .exit)) ≡ listed s (now (buffer .entry)) ⌝ }

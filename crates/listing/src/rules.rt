@@ -3,16 +3,15 @@ ghost use mathlib.Core.Path.{_≡_};
 ghost use Prim.Native.Nat.{_+_, _≤_};
 ghost use lib.ListN.{length};
 ghost use mathlib.Core.Bool.{cond};
-ghost use Rattle.election.specs.Listing.{upWord, downWord, listing};
-ghost use Rattle.listing.specs.Pieces.{countOf, counts, status, leaderOf, recOf, who, known, ends, line, lines};
-ghost use Rattle.listing.specs.Verdicts.{allDown, trusts, allTrust, leaderAfter, lastLeader, verdictOf, verdictLine};
+ghost use Rattle.election.specs.Listing.{upWord, downWord, countOf, vector, status, leaderOf, vectorOf, stationLine, stationLines, dark, trusts, agreed, leaderAfter, aLeader, verdict, verdictLine, listing};
+ghost use Rattle.listing.specs.Pieces.{who, known, ends};
 ghost use Rattle.listing.specs.Wrote.{Wrote};
-use crate::Verdict;
 use crate::text::put;
 use crate::text::put_decimal;
 use crate::text::put_last;
 use crate::text::put_named;
 use election::System;
+use election::Verdict;
 use station::Station;
 
 pub mod ending;
@@ -30,8 +29,8 @@ fn put_count(k: usize, x: u16, buffer: &mut [u8]) -> usize
 
 // Writes the first n counts.
 fn put_counts(n: usize, v: [u16; 8], buffer: &mut [u8]) -> usize
-    requires { ⌜ (n ≤ 8) × (length (counts n v) ≤ length (now buffer)) ⌝ }
-    ensures { λ r. ⌜ Wrote (counts n v) (now (buffer .entry)) r (now (buffer .exit)) ⌝ }
+    requires { ⌜ (n ≤ 8) × (length (vector n v) ≤ length (now buffer)) ⌝ }
+    ensures { λ r. ⌜ Wrote (vector n v) (now (buffer .entry)) r (now (buffer .exit)) ⌝ }
 {
     let mut at = 0;
     for k in 0..n {
@@ -73,8 +72,8 @@ fn put_leader(up: bool, l: u8, buffer: &mut [u8]) -> usize
 
 // Writes a station's vector.
 fn put_rec(n: usize, up: bool, v: [u16; 8], buffer: &mut [u8]) -> usize
-    requires { ⌜ (n ≤ 8) × (length (recOf n up v) ≤ length (now buffer)) ⌝ }
-    ensures { λ r. ⌜ Wrote (recOf n up v) (now (buffer .entry)) r (now (buffer .exit)) ⌝ }
+    requires { ⌜ (n ≤ 8) × (length (vectorOf n up v) ≤ length (now buffer)) ⌝ }
+    ensures { λ r. ⌜ Wrote (vectorOf n up v) (now (buffer .entry)) r (now (buffer .exit)) ⌝ }
 {
     if !up {
         return put(b" rec -", buffer);
@@ -113,8 +112,8 @@ fn put_ends(sent: u32, x: Station, buffer: &mut [u8]) -> usize
 
 // Writes the line of station p.
 fn put_line(n: usize, p: u8, x: Station, sent: u32, buffer: &mut [u8]) -> usize
-    requires { ⌜ (n ≤ 8) × (length (line n p x sent) ≤ length (now buffer)) ⌝ }
-    ensures { λ r. ⌜ Wrote (line n p x sent) (now (buffer .entry)) r (now (buffer .exit)) ⌝ }
+    requires { ⌜ (n ≤ 8) × (length (stationLine n p x sent) ≤ length (now buffer)) ⌝ }
+    ensures { λ r. ⌜ Wrote (stationLine n p x sent) (now (buffer .entry)) r (now (buffer .exit)) ⌝ }
 {
     let a = put_who(p, x, buffer);
     let b = a + put_known(n, x, &mut buffer[a..]);
@@ -123,8 +122,8 @@ fn put_line(n: usize, p: u8, x: Station, sent: u32, buffer: &mut [u8]) -> usize
 
 // Writes the lines of the first n stations.
 fn put_lines(n: usize, stations: [Station; 8], sent: [u32; 8], buffer: &mut [u8]) -> usize
-    requires { ⌜ (n ≤ 8) × (length (lines n stations sent) ≤ length (now buffer)) ⌝ }
-    ensures { λ r. ⌜ Wrote (lines n stations sent) (now (buffer .entry)) r (now (buffer .exit)) ⌝ }
+    requires { ⌜ (n ≤ 8) × (length (stationLines n stations sent) ≤ length (now buffer)) ⌝ }
+    ensures { λ r. ⌜ Wrote (stationLines n stations sent) (now (buffer .entry)) r (now (buffer .exit)) ⌝ }
 {
     let mut at = 0;
     for k in 0..n {
@@ -137,7 +136,7 @@ fn put_lines(n: usize, stations: [Station; 8], sent: [u32; 8], buffer: &mut [u8]
 // Whether none of the first n stations is up.
 fn all_down(n: usize, stations: [Station; 8]) -> bool
     requires { ⌜ n ≤ 8 ⌝ }
-    ensures { λ r. ⌜ r ≡ allDown n stations ⌝ }
+    ensures { λ r. ⌜ r ≡ dark n stations ⌝ }
 {
     for k in 0..n {
         let x = stations[k];
@@ -158,7 +157,7 @@ fn trusts(x: Station, l: u8) -> bool
 // Whether all up stations among the first n trust l.
 fn all_trust(n: usize, stations: [Station; 8], l: u8) -> bool
     requires { ⌜ n ≤ 8 ⌝ }
-    ensures { λ r. ⌜ r ≡ allTrust n stations l ⌝ }
+    ensures { λ r. ⌜ r ≡ agreed n stations l ⌝ }
 {
     for k in 0..n {
         if !trusts(stations[k], l) {
@@ -178,7 +177,7 @@ fn leader_after(x: Station, l: u8) -> u8
 // The leader of the last up station among the first n, 0 if none is up.
 fn last_leader(n: usize, stations: [Station; 8]) -> u8
     requires { ⌜ n ≤ 8 ⌝ }
-    ensures { λ r. ⌜ r ≡ lastLeader n stations ⌝ }
+    ensures { λ r. ⌜ r ≡ aLeader n stations ⌝ }
 {
     let mut l = 0;
     for k in 0..n {
@@ -190,7 +189,7 @@ fn last_leader(n: usize, stations: [Station; 8]) -> u8
 // The verdict on the first n stations.
 pub fn verdict(n: usize, stations: [Station; 8]) -> Verdict
     requires { ⌜ n ≤ 8 ⌝ }
-    ensures { λ r. ⌜ r ≡ verdictOf n stations ⌝ }
+    ensures { λ r. ⌜ r ≡ verdict n stations ⌝ }
 {
     if all_down(n, stations) {
         return Verdict::Dark;

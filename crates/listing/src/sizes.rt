@@ -2,13 +2,12 @@
 ghost use mathlib.Core.Path.{_≡_};
 ghost use Prim.Native.Nat.{_*_, _+_, _≤_};
 ghost use lib.ListN.{length};
-ghost use Rattle.listing.specs.Pieces.{countOf, counts, who, known, line, lines};
-ghost use Rattle.listing.specs.Verdicts.{verdictLine};
-ghost use Rattle.election.specs.Listing.{listing};
-use crate::Verdict;
+ghost use Rattle.listing.specs.Pieces.{who, known};
+ghost use Rattle.election.specs.Listing.{countOf, vector, stationLine, stationLines, verdictLine, listing};
 use crate::rules::verdict;
 use crate::text::decimal_size;
 use election::System;
+use election::Verdict;
 use station::Station;
 
 // The length of the count at k.
@@ -25,7 +24,7 @@ fn count_size(k: usize, x: u16) -> usize
 // The length of the first n counts.
 fn counts_size(n: usize, v: [u16; 8]) -> usize
     requires { ⌜ n ≤ 8 ⌝ }
-    ensures { λ r. ⌜ (r ≡ length (counts n v)) × (r ≤ 168) ⌝ }
+    ensures { λ r. ⌜ (r ≡ length (vector n v)) × (r ≤ 168) ⌝ }
 {
     let mut size = 0;
     for k in 0..n {
@@ -61,7 +60,7 @@ fn known_size(n: usize, x: Station) -> usize
 // The length of the line of station p.
 fn line_size(n: usize, p: u8, x: Station, sent: u32) -> usize
     requires { ⌜ n ≤ 8 ⌝ }
-    ensures { λ r. ⌜ (r ≡ length (line n p x sent)) × (r ≤ 320) ⌝ }
+    ensures { λ r. ⌜ (r ≡ length (stationLine n p x sent)) × (r ≤ 320) ⌝ }
 {
     let numbers = decimal_size(sent as u64) + decimal_size(x.stable as u64);
     who_size(p, x) + known_size(n, x) + numbers + 13
@@ -70,7 +69,7 @@ fn line_size(n: usize, p: u8, x: Station, sent: u32) -> usize
 // The length of the lines of the first n stations.
 fn lines_size(n: usize, stations: [Station; 8], sent: [u32; 8]) -> usize
     requires { ⌜ n ≤ 8 ⌝ }
-    ensures { λ r. ⌜ (r ≡ length (lines n stations sent)) × (r ≤ 2560) ⌝ }
+    ensures { λ r. ⌜ (r ≡ length (stationLines n stations sent)) × (r ≤ 2560) ⌝ }
 {
     let mut size = 0;
     for k in 0..n {

@@ -1,25 +1,19 @@
 -- The function links_in meets its contract.
 use mathlib.Core.Path.{_≡_, sym}
 use mathlib.Core.Bool.{true}
-use Prim.Native.Nat.{ℕ, _+_, _-_, _/_, _≤_}
+use Prim.Native.Nat.{_-_, _≤_}
 use native.Mathlib.Omega.{arith}
-use lib.ListN.{getD}
 use Rattle.lists.proofs.Bools.{holds, fails}
 use Rattle.lists.specs.Test.{allTo}
 use Rattle.lists.proofs.Test.{all-none, all-turn, all-not}
 use Rattle.election.specs.Sound.{placeIn}
-use Rattle.election.specs.System.{noStation, station, from}
-use Rattle.election.specs.declared.System.{System}
+use Rattle.election.proofs.Places.{seat-of}
 use borrow.Author.Needs.{needs}
 use Rattle.soundness.proofs.links_in.Statement.{statement}
 use Rattle.soundness.proofs.links_in.Tie as tie
 use Rattle.soundness.proofs.links_in.Reads as reads
 use Rattle.soundness.proofs.links_in.Lts as lts
 use Rattle.soundness.proofs.link_place.Reads as link-place-reads
-
--- the sender of a link
-sender : (s : System) (k : ℕ) → station s (from k) ≡ getD (s .stations) (k / 8) noStation
-sender s k = let e : k / 8 + 1 - 1 ≡ k / 8 = omega arith in rw e
 
 abbrev Inv-loop : tie.InvT-loop
 Inv-loop s k₀ k = (k ≤ 64) × (allTo k (placeIn s) ≡ true)
@@ -62,7 +56,7 @@ link-place-requires c κs = search needs
 
 returns : tie.Need-returns Inv-loop μ-loop
 unfolding placeIn
-returns c = sym (all-not 64 _ _ (c .before .before .before .before .before .loop-test .taken) (rw (sender _ _) (fails (c .before .link-place .ensures) (c .if1 .taken))))
+returns c = sym (all-not 64 _ _ (c .before .before .before .before .before .loop-test .taken) (rw (seat-of _ _) (fails (c .before .link-place .ensures) (c .if1 .taken))))
 
 add-k : tie.Need-add-k Inv-loop μ-loop
 add-k c = search needs
@@ -72,7 +66,7 @@ loop-less c = search needs
 
 loop-again : tie.Need-loop-again Inv-loop μ-loop
 unfolding placeIn
-loop-again c = (search needs, all-turn _ _ (c .before .before .before .before .before .before .loop .inv .1) (rw (sender _ _) (holds (c .before .link-place .ensures) (c .if1 .left))))
+loop-again c = (search needs, all-turn _ _ (c .before .before .before .before .before .before .loop .inv .1) (rw (seat-of _ _) (holds (c .before .link-place .ensures) (c .if1 .left))))
 
 returns-2 : tie.Need-returns-2 Inv-loop μ-loop
 returns-2 c = let e : c .before .loop .k ≡ 64 = omega arith in sym (rw e at (c .before .loop .inv .1))

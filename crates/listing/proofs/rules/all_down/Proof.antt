@@ -8,7 +8,7 @@ use borrow.Author.Needs.{needs}
 use Rattle.lists.proofs.Test.{all-none, all-turn, all-not}
 use Rattle.lists.specs.Test.{allTo}
 use Rattle.election.specs.System.{noStation}
-use Rattle.listing.specs.Verdicts.{allDown}
+use Rattle.election.specs.Listing.{dark}
 use Rattle.listing.proofs.rules.all_down.Tie as tie
 use Rattle.listing.proofs.rules.all_down.Statement.{statement}
 
@@ -22,14 +22,14 @@ loop-holds : tie.Need-loop-holds Inv-loop μ-loop
 loop-holds c = (search needs, all-none _)
 
 returns : tie.Need-returns Inv-loop μ-loop
-unfolding allDown
+unfolding dark
 returns c = sym (all-not _ _ _ (c .before .before .loop-test .taken) (rw (c .if1 .taken)))
 
 loop-again : tie.Need-loop-again Inv-loop μ-loop
 loop-again c = (search needs, all-turn _ _ (c .before .before .before .loop .inv .1) (rw (c .if1 .left)))
 
 returns-2 : tie.Need-returns-2 Inv-loop μ-loop
-unfolding allDown
+unfolding dark
 returns-2 c = let e : (c .before .loop .k) ≡ (c .before .before .args .n) = omega arith in sym (rw e at (c .before .loop .inv .1))
 
 pub all-down-spec : {M : Type 1} → statement M

@@ -7,7 +7,7 @@ use borrow.Author.Needs.{needs}
 use Rattle.lists.proofs.Fold.{each-zero, each-turn}
 use Rattle.lists.specs.Fold.{each}
 use Rattle.election.specs.System.{noStation}
-use Rattle.listing.specs.Verdicts.{leaderAfter, lastLeader}
+use Rattle.election.specs.Listing.{leaderAfter, aLeader}
 use Rattle.listing.proofs.rules.last_leader.Tie as tie
 use Rattle.listing.proofs.rules.last_leader.Statement.{statement}
 
@@ -24,7 +24,7 @@ loop-again : tie.Need-loop-again Inv-loop μ-loop
 loop-again c = (search needs, each-turn _ _ _ _ _ (c .before .before .before .loop .inv .1) (c .leader-after .ensures))
 
 returns : tie.Need-returns Inv-loop μ-loop
-unfolding lastLeader
+unfolding aLeader
 returns c = let e : (c .before .loop .k) ≡ (c .before .before .args .n) = omega arith in rw e at (c .before .loop .inv .1)
 
 pub last-leader-spec : {M : Type 1} → statement M

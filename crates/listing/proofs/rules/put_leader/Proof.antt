@@ -1,7 +1,7 @@
 -- The function rules::put_leader meets its contract.
 use native.Mathlib.Omega.{arith}
 use borrow.Author.Needs.{needs}
-use Rattle.listing.specs.Pieces.{leaderOf}
+use Rattle.election.specs.Listing.{leaderOf}
 use Rattle.listing.proofs.rules.put_leader.Tie as tie
 use Rattle.listing.proofs.rules.put_leader.Statement.{statement}
 

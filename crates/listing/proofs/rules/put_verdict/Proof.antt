@@ -1,7 +1,7 @@
 -- The function rules::put_verdict meets its contract.
 use native.Mathlib.Omega.{arith}
 use borrow.Author.Needs.{needs}
-use Rattle.listing.specs.Verdicts.{verdictLine}
+use Rattle.election.specs.Listing.{verdictLine}
 use Rattle.listing.proofs.rules.put_verdict.Tie as tie
 use Rattle.listing.proofs.rules.put_verdict.Statement.{statement}
 

@@ -1,20 +1,20 @@
 -- The function rules::verdict meets its contract.
 use mathlib.Core.Path.{sym, _∙_}
 use borrow.Author.Needs.{needs}
-use Rattle.listing.specs.Verdicts.{verdictOf}
+use Rattle.election.specs.Listing.{verdict}
 use Rattle.listing.proofs.rules.verdict.Tie as tie
 use Rattle.listing.proofs.rules.verdict.Statement.{statement}
 
 returns : tie.Need-returns
-unfolding verdictOf
+unfolding verdict
 returns c = rw (sym (c .before .all-down .ensures) ∙ (c .if1 .taken))
 
 returns-2 : tie.Need-returns-2
-unfolding verdictOf
+unfolding verdict
 returns-2 c = rw (sym (c .before .before .before .before .all-down .ensures) ∙ (c .before .before .before .if1 .left), ← (c .before .before .last-leader .ensures), sym (c .before .all-trust .ensures) ∙ (c .if2 .taken))
 
 returns-3 : tie.Need-returns-3
-unfolding verdictOf
+unfolding verdict
 returns-3 c = rw (sym (c .before .before .before .before .all-down .ensures) ∙ (c .before .before .before .if1 .left), ← (c .before .before .last-leader .ensures), sym (c .before .all-trust .ensures) ∙ (c .if2 .left))
 
 pub verdict-spec : {M : Type 1} → statement M

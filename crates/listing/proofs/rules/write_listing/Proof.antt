@@ -1,8 +1,7 @@
 -- The function rules::write_listing meets its contract.
 use mathlib.Core.Path.{sym}
 use borrow.Author.Needs.{needs}
-use Rattle.listing.specs.Verdicts.{verdictLine}
-use Rattle.listing.specs.Pieces.{lines}
+use Rattle.election.specs.Listing.{stationLines, verdictLine}
 use Rattle.listing.proofs.Parts.{wrote-part, room-at, room-part, ends-in, room-two}
 use Rattle.listing.proofs.Same.{room, listing-is, room-tick}
 use Rattle.listing.proofs.rules.write_listing.Tie as tie
@@ -12,13 +11,13 @@ put-last-requires : tie.Need-put-last-requires
 put-last-requires c κs = let start = c .before .before .before .before .before .before .before .before in room-tick (start .args .s) (start .pre .1)
 
 sub-put-lines : tie.Need-sub-put-lines
-sub-put-lines c = let start = c .before .before .before .before .before .before .before .before .before .before .before in room-at (lines (start .args .s .n) (start .args .s .stations) (start .args .s .sent)) (c .before .before .put-last .ensures) (room-two _ (verdictLine (c .before .before .before .before .before .before .verdict .result)) (c .before .before .put-last .ensures) (room (start .args .s) (c .before .before .before .before .before .before .verdict .result) (c .before .before .before .before .before .before .verdict .ensures) (start .pre .1)))
+sub-put-lines c = let start = c .before .before .before .before .before .before .before .before .before .before .before in room-at (stationLines (start .args .s .n) (start .args .s .stations) (start .args .s .sent)) (c .before .before .put-last .ensures) (room-two _ (verdictLine (c .before .before .before .before .before .before .verdict .result)) (c .before .before .put-last .ensures) (room (start .args .s) (c .before .before .before .before .before .before .verdict .result) (c .before .before .before .before .before .before .verdict .ensures) (start .pre .1)))
 
 part-put-lines-start : tie.Need-part-put-lines-start
 part-put-lines-start c = sub-put-lines c
 
 put-lines-requires : tie.Need-put-lines-requires
-put-lines-requires c κs = let start = c .before .before .before .before .before .before .before .before .before .before .before .before in (search needs, room-part (lines (start .args .s .n) (start .args .s .stations) (start .args .s .sent)) (c .before .before .before .put-last .ensures) (room-two _ (verdictLine (c .before .before .before .before .before .before .before .verdict .result)) (c .before .before .before .put-last .ensures) (room (start .args .s) (c .before .before .before .before .before .before .before .verdict .result) (c .before .before .before .before .before .before .before .verdict .ensures) (start .pre .1))))
+put-lines-requires c κs = let start = c .before .before .before .before .before .before .before .before .before .before .before .before in (search needs, room-part (stationLines (start .args .s .n) (start .args .s .stations) (start .args .s .sent)) (c .before .before .before .put-last .ensures) (room-two _ (verdictLine (c .before .before .before .before .before .before .before .verdict .result)) (c .before .before .before .put-last .ensures) (room (start .args .s) (c .before .before .before .before .before .before .before .verdict .result) (c .before .before .before .before .before .before .before .verdict .ensures) (start .pre .1))))
 
 add-b : tie.Need-add-b
 add-b c = let start = c .before .before .before .before .before .before .before .before .before .before .before .before .before .before .before in record { fits = ends-in (wrote-part (c .before .before .before .before .before .before .put-last .ensures) (c .before .before .put-lines .ensures)) (room-two _ (verdictLine (c .before .before .before .before .before .before .before .before .before .before .verdict .result)) (c .before .before .before .before .before .before .put-last .ensures) (room (start .args .s) (c .before .before .before .before .before .before .before .before .before .before .verdict .result) (c .before .before .before .before .before .before .before .before .before .before .verdict .ensures) (start .pre .1))) (start .good .1 .0 .0) }

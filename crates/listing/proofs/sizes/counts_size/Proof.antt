@@ -4,8 +4,8 @@ use Prim.Native.Nat.{_*_, _-_, _≤_}
 use native.Mathlib.Omega.{arith}
 use lib.ListN.{length, getD}
 use borrow.Author.Needs.{needs}
-use Rattle.listing.specs.Pieces.{countOf, counts}
-use Rattle.listing.specs.Join.{joinTo}
+use Rattle.election.specs.Listing.{countOf, vector}
+use Rattle.lists.specs.Join.{joinTo}
 use Rattle.listing.proofs.Parts.{join-size}
 use Rattle.listing.proofs.sizes.counts_size.Tie as tie
 use Rattle.listing.proofs.sizes.counts_size.Statement.{statement}
@@ -24,7 +24,7 @@ loop-again : tie.Need-loop-again Inv-loop μ-loop
 loop-again c = (search needs, search needs, join-size _ _ (c .before .before .loop .inv .2) (c .count-size .ensures .0))
 
 returns : tie.Need-returns Inv-loop μ-loop
-unfolding counts
+unfolding vector
 returns c = let e : (c .before .loop .k) ≡ (c .before .before .args .n) = omega arith in (rw e at (c .before .loop .inv .2), omega arith)
 
 pub counts-size-spec : {M : Type 1} → statement M

@@ -5,14 +5,14 @@ use native.Mathlib.Omega.{arith}
 use lib.ListN.{length, getD}
 use borrow.Author.Needs.{needs}
 use Rattle.election.specs.System.{noStation}
-use Rattle.listing.specs.Pieces.{line, lines}
-use Rattle.listing.specs.Join.{joinTo}
+use Rattle.election.specs.Listing.{stationLine, stationLines}
+use Rattle.lists.specs.Join.{joinTo}
 use Rattle.listing.proofs.Parts.{join-size}
 use Rattle.listing.proofs.sizes.lines_size.Tie as tie
 use Rattle.listing.proofs.sizes.lines_size.Statement.{statement}
 
 abbrev Inv-loop : tie.InvT-loop
-Inv-loop n stations sent size₀ k₀ size k = (k ≤ n) × (size ≤ 320 * k) × (size ≡ length (joinTo k (λ i. line n (i + 1) (getD stations i noStation) (getD sent i 0))))
+Inv-loop n stations sent size₀ k₀ size k = (k ≤ n) × (size ≤ 320 * k) × (size ≡ length (joinTo k (λ i. stationLine n (i + 1) (getD stations i noStation) (getD sent i 0))))
 
 abbrev μ-loop : tie.MeasureT-loop
 μ-loop n stations sent size₀ k₀ size k = n - k
@@ -25,7 +25,7 @@ loop-again : tie.Need-loop-again Inv-loop μ-loop
 loop-again c = (search needs, search needs, join-size _ _ (c .before .before .before .loop .inv .2) (c .line-size .ensures .0))
 
 returns : tie.Need-returns Inv-loop μ-loop
-unfolding lines
+unfolding stationLines
 returns c = let e : (c .before .loop .k) ≡ (c .before .before .args .n) = omega arith in (rw e at (c .before .loop .inv .2), omega arith)
 
 pub lines-size-spec : {M : Type 1} → statement M

@@ -2,7 +2,7 @@
 use native.Mathlib.Omega.{arith}
 use lib.ListN.{length-append}
 use borrow.Author.Needs.{needs}
-use Rattle.listing.specs.Verdicts.{verdictLine}
+use Rattle.election.specs.Listing.{verdictLine}
 use Rattle.listing.proofs.sizes.verdict_size.Tie as tie
 use Rattle.listing.proofs.sizes.verdict_size.Statement.{statement}
 

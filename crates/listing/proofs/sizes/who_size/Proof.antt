@@ -2,7 +2,8 @@
 use native.Mathlib.Omega.{arith}
 use lib.ListN.{length-append}
 use borrow.Author.Needs.{needs}
-use Rattle.listing.specs.Pieces.{who, status, leaderOf}
+use Rattle.election.specs.Listing.{status, leaderOf}
+use Rattle.listing.specs.Pieces.{who}
 use Rattle.listing.proofs.sizes.who_size.Tie as tie
 use Rattle.listing.proofs.sizes.who_size.Statement.{statement}
 
