@@ -6,7 +6,7 @@ ghost use Prim.Native.Nat.{_+_, _-_, _<_, _≤_};
 ghost use lib.ListN.{length, set};
 ghost use Rattle.station.specs.Order.{entry};
 ghost use Rattle.station.specs.Fit.{lastTick, longest};
-ghost use Rattle.election.specs.System.{messages, holding};
+ghost use Rattle.election.specs.System.{unused, messages, holding};
 ghost use Rattle.election.specs.Tick.{later};
 ghost use Rattle.ticks.specs.Sending.{hears, sentOver, timerEnds, sendsNow};
 use election::Link;
@@ -47,7 +47,7 @@ pub(crate) fn timer_ends(now: u32, x: Station) -> bool
 
 // An unused place of a link.
 fn unused() -> Message
-    ensures { λ r. ⌜ r ≡ record { sent = 0; due = 0; counts = lib.ListN.replicate 8 0 } ⌝ }
+    ensures { λ r. ⌜ r ≡ unused ⌝ }
 {
     Message {
         sent: 0,
