@@ -90,7 +90,7 @@ countOf k x = cond (eqb k 0) [] (44 ∷ []) ++ decimal x
 unfoldable pub vector : ℕ → List ℕ → List ℕ
 vector n v = joinTo n (λ k. countOf k (getD v k 0))
 
--- the number of a station, and whether it is up
+-- the number of a station, and up or down
 unfoldable pub status : ℕ → Bool → List ℕ
 status p up = decimal p ++ cond up upWord downWord
 
@@ -101,7 +101,7 @@ leaderOf up l = leaderWord ++ cond up (decimal l) noneWord
 unfoldable pub vectorOf : ℕ → Bool → List ℕ → List ℕ
 vectorOf n up v = recWord ++ cond up (vector n v) noneWord
 
--- the line of station p: up or down, trusted leader, kept count, vector, sent, kept leader
+-- the line of a station: its number, up or down, trusted leader, kept count, vector, sent, kept leader
 unfoldable pub stationLine : ℕ → ℕ → Station → ℕ → List ℕ
 stationLine n p x sent =
     status p (x .up)
@@ -120,14 +120,14 @@ stationLines n stations sent = joinTo n (λ k. stationLine n (k + 1) (getD stati
 unfoldable pub dark : ℕ → List Station → Bool
 dark n stations = allTo n (λ k. not (getD stations k noStation .up))
 
--- a station trusts l if it is up; all of the first n do
+-- if it is up, a station trusts l; so do all of the first n
 abbrev pub trusts : ℕ → Station → Bool
 trusts l x = cond (x .up) (eqb (x .leader) l) true
 
 unfoldable pub agreed : ℕ → List Station → ℕ → Bool
 agreed n stations l = allTo n (λ k. trusts l (getD stations k noStation))
 
--- the leader of the last of them that is up, 0 if none is
+-- the leader of a station that is up, else l; and of the last one up among the first n, 0 if none is
 abbrev pub leaderAfter : Station → ℕ → ℕ
 leaderAfter x l = cond (x .up) (x .leader) l
 

@@ -42,7 +42,7 @@ placesIn n period tick sender l = allTo places (λ k. messagePlace n period tick
 abbrev pub apart : ℕ → Message → Message → Bool
 apart period older younger = leb (older .sent + period) (younger .sent)
 
--- the message at place k and the one after it are, if there is one
+-- so are the messages at place k and at the next, if both are used
 abbrev pub spaced : ℕ → Link → ℕ → Bool
 spaced period l k = cond (ltb (k + 1) (l .used)) (apart period (messageAt l k) (messageAt l (k + 1))) true
 
