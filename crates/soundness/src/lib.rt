@@ -1,7 +1,6 @@
 // Whether a system is sound: every clause of document 01's list, tested. No sum in the tests wraps.
 ghost use mathlib.Core.Path.{_≡_};
 ghost use Prim.Native.Nat.{_<_, _≤_};
-ghost use lib.Dec.{ltb};
 ghost use Rattle.lists.specs.Test.{allTo};
 ghost use Rattle.election.specs.System.{isLink};
 ghost use Rattle.election.specs.Sound.{emptyStation, emptyMessage, messageIn, beforeSlot, messagePlace, apart, spaced, placesIn, ordered, linkIn, emptyPlaces, linkPlace, stationPlace, placeIn, stationIn, sound};
@@ -47,19 +46,11 @@ fn before_slot(period: u32, sender: Station, m: Message) -> bool
     if sender.up { first <= slot } else { true }
 }
 
-// Whether place k of a link holds a message, or is zero where it is unused.
-fn message_place(
-    n: u8,
-    period: u32,
-    tick: u32,
-    sender: Station,
-    count: u8,
-    k: usize,
-    m: Message,
-) -> bool
-    ensures { λ r. ⌜ r ≡ messagePlace n period tick sender (ltb k count) m ⌝ }
+// Whether a place of a link holds a message if it is used, and else is zero.
+fn message_place(n: u8, period: u32, tick: u32, sender: Station, used: bool, m: Message) -> bool
+    ensures { λ r. ⌜ r ≡ messagePlace n period tick sender used m ⌝ }
 {
-    if k < count as usize {
+    if used {
         message_in(n, tick, m) & before_slot(period, sender, m)
     } else {
         empty_message(m)
@@ -72,7 +63,8 @@ fn places_in(n: u8, period: u32, tick: u32, sender: Station, l: Link) -> bool
 {
     let ms = l.messages;
     for k in 0..4 {
-        if !message_place(n, period, tick, sender, l.used, k, ms[k]) {
+        let used = k < l.used as usize;
+        if !message_place(n, period, tick, sender, used, ms[k]) {
             return false;
         }
     }

@@ -1,5 +1,4 @@
 -- The function message_place meets its contract.
-use borrow.Author.Tests.{lt-ltb, le-ltb}
 use borrow.Author.Needs.{needs}
 use Rattle.soundness.proofs.message_place.Statement.{statement}
 use Rattle.soundness.proofs.message_place.Tie as tie
@@ -19,10 +18,10 @@ empty-message-requires : tie.Need-empty-message-requires
 empty-message-requires c κs = search needs
 
 returns : tie.Need-returns
-returns c = rw (lt-ltb _ _ (c .before .before .if1 .taken)) (cc)
+returns c = rw (c .before .before .if1 .taken) (cc)
 
 returns-2 : tie.Need-returns-2
-returns-2 c = rw (le-ltb _ _ (c .before .if1 .left)) (cc)
+returns-2 c = rw (c .before .if1 .left) (cc)
 
 pub message-place-spec : {M : Type 1} → statement M
 message-place-spec =

@@ -24,6 +24,9 @@ abbrev μ-loop : tie.MeasureT-loop
 loop-holds : tie.Need-loop-holds Inv-loop μ-loop
 loop-holds c = (search needs, all-none _)
 
+cast-used : tie.Need-cast-used Inv-loop μ-loop
+cast-used c = search needs
+
 mul-message-place : tie.Need-mul-message-place Inv-loop μ-loop
 mul-message-place c = search needs
 
@@ -34,7 +37,7 @@ message-place-requires : tie.Need-message-place-requires Inv-loop μ-loop
 message-place-requires c κs = search needs
 
 returns : tie.Need-returns Inv-loop μ-loop
-returns c = sym (all-not 4 _ _ (c .before .before .before .loop-test .taken) (fails (c .before .message-place .ensures) (c .if1 .taken)))
+returns c = sym (all-not 4 _ _ (c .before .before .before .before .loop-test .taken) (fails (c .before .message-place .ensures) (c .if1 .taken)))
 
 add-k : tie.Need-add-k Inv-loop μ-loop
 add-k c = search needs
@@ -43,7 +46,7 @@ loop-less : tie.Need-loop-less Inv-loop μ-loop
 loop-less c = search needs
 
 loop-again : tie.Need-loop-again Inv-loop μ-loop
-loop-again c = (search needs, all-turn _ _ (c .before .before .before .before .loop .inv .1) (holds (c .before .message-place .ensures) (c .if1 .left)))
+loop-again c = (search needs, all-turn _ _ (c .before .before .before .before .before .loop .inv .1) (holds (c .before .message-place .ensures) (c .if1 .left)))
 
 returns-2 : tie.Need-returns-2 Inv-loop μ-loop
 returns-2 c = let e : c .before .loop .k ≡ 4 = omega arith in sym (rw e at (c .before .loop .inv .1))
@@ -55,6 +58,7 @@ places-in-spec =
     Inv-loop
     μ-loop
     loop-holds
+    cast-used
     mul-message-place
     array-copy-out-message-place
     message-place-requires
