@@ -1,8 +1,7 @@
 // What an operation made of a station, as a line.
 ghost use mathlib.Core.Path.{_≡_};
 ghost use Rattle.station.specs.Operations.{refusalOf};
-use crate::lines::Line;
-use crate::same::same;
+use crate::print::Line;
 use station::Answer;
 use station::Outcome;
 use station::Station;
@@ -17,6 +16,30 @@ fn refusal_of(a: Answer) -> u64
         Answer::WornOut => 10,
         Answer::Unfit => 15,
     }
+}
+
+// Whether two vectors of counts are equal.
+fn same_counts(a: [u16; 8], b: [u16; 8]) -> bool {
+    let low = (a[0] == b[0]) & (a[1] == b[1]) & (a[2] == b[2]) & (a[3] == b[3]);
+    low & (a[4] == b[4]) & (a[5] == b[5]) & (a[6] == b[6]) & (a[7] == b[7])
+}
+
+// Whether two lists of timeouts are equal.
+fn same_timeouts(a: [u32; 8], b: [u32; 8]) -> bool {
+    let low = (a[0] == b[0]) & (a[1] == b[1]) & (a[2] == b[2]) & (a[3] == b[3]);
+    low & (a[4] == b[4]) & (a[5] == b[5]) & (a[6] == b[6]) & (a[7] == b[7])
+}
+
+// Whether two stations are equal in every field.
+fn same(a: Station, b: Station) -> bool {
+    let v = a.recovered;
+    let w = b.recovered;
+    let t = a.timeouts;
+    let u = b.timeouts;
+    let kept = (a.incarnation == b.incarnation) & (a.stable == b.stable);
+    let flags = (a.up == b.up) & (a.recovering == b.recovering);
+    let rest = (a.leader == b.leader) & (a.timer == b.timer) & (a.slot == b.slot);
+    kept & flags & rest & same_counts(v, w) & same_timeouts(t, u)
 }
 
 // The same number, as a u32.

@@ -1,6 +1,6 @@
 // The cases of frames: what writing and reading answer, and what they leave.
-use crate::lines::Line;
-use crate::lines::front;
+use crate::print::Line;
+use crate::print::front;
 use frame::numbers::length_of;
 use frame::numbers::read_refusal;
 use frame::numbers::sender_of;
