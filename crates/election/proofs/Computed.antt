@@ -13,7 +13,7 @@ use Rattle.election.specs.Tick.{heardLink, heardAll, expiredNow, slotted
 use Rattle.election.specs.Sound.{emptyStation, emptyMessage, messageIn, beforeSlot, linkIn, emptyPlace, emptySeat, placeIn, stationIn, sound}
 use Rattle.election.specs.Commands.{decode, refusal, perform, command}
 use Rattle.election.specs.Schedule.{follow, schedule}
-use Rattle.election.specs.Listing.{digits, countOf, vector, status, leaderOf, vectorOf, stationLine, stationLines, dark, agreed, aLeader, verdict, verdictLine, listing, reported, endLine, reports, output}
+use Rattle.election.specs.Listing.{digits, countOf, vector, status, leaderOf, vectorOf, stationLine, stationLines, dark, agreed, aLeader, verdict, verdictLine, listingOf, reported, endLine, reports, output}
 use Rattle.election.specs.Rehearsals.{Rehearsed, NoneOfTheErrors}
 
 -- every rule, to be unfolded
@@ -26,5 +26,5 @@ unfolding rules
 errors-ruled-out = ((refl, (refl, (refl, (refl, tt)))), refl, refl)
 
 pub rehearsed : Rehearsed
-unfolding rules digits joinTo countOf vector status leaderOf vectorOf stationLine stationLines dark agreed aLeader verdict verdictLine listing reported endLine reports output
+unfolding rules digits joinTo countOf vector status leaderOf vectorOf stationLine stationLines dark agreed aLeader verdict verdictLine listingOf reported endLine reports output
 rehearsed = (refl, (refl, (refl, (refl, (refl, (refl, (refl, (refl, (refl, (refl, tt))))))))))

@@ -1,109 +1,118 @@
 -- Going on with a schedule: each stop, what it says of the rest of the schedule, and that going on again and again prints all.
-use mathlib.Core.Path.{_≡_, refl, sym, ap, subst, _∙_}
+use mathlib.Core.Path.{_≡_, refl, sym, ap, fun-ext, _∙_}
 use mathlib.Core.Logic.{_≢_}
 use mathlib.Core.List.{List, [], _∷_, _++_, append-assoc}
-use mathlib.Core.Bool.{Bool, true, false, cond, true≢false}
-use Prim.Native.Nat.{ℕ, zero, suc, _+_, _<_, _≤_}
+use mathlib.Core.Bool.{Bool, true, false, cond, _&&_, true≢false}
+use Prim.Native.Nat.{ℕ, zero, suc, _+_, _-_, _<_, _≤_}
 use native.Mathlib.Decide.{ℕ-discrete, decLt}
 use native.Mathlib.Nat.{add-zero}
 use native.Mathlib.Omega.{arith}
-use lib.Dec.{eqb}
+use lib.Dec.{ltb, eqb}
 use lib.ListN.{length, getD, drop}
 use lib.Seq.{getD-drop}
-use borrow.Author.Tests.{eq-eqb, ne-eqb, le-ltb}
-use Rattle.lists.specs.First.{firstFailed}
-use Rattle.lists.proofs.Bools.{cond-elim, cond-yes, cond-no}
-use Rattle.election.specs.Commands.{Report, decode, tests, refusal, perform, command}
-use Rattle.election.specs.Listing.{listing, reported, lastLine, reports, output}
-use Rattle.election.specs.Onward.{Halt, onward, goOn, ending, repeated, Repeats}
+use borrow.Author.Tests.{eq-eqb, ne-eqb, lt-ltb, le-ltb}
+use Rattle.lists.proofs.Bools.{both, cond-yes, cond-no}
+use Rattle.election.specs.Commands.{command}
+use Rattle.election.specs.Listing.{listing, longestListing, reported, lastLine, reports, output}
+use Rattle.election.specs.Onward.{Halt, after, toList, onward, goOn, ending, repeated, Repeats}
 use Rattle.election.specs.Schedule.{End, follow, mostBytes, schedule}
 use Rattle.election.specs.Sound.{sound}
 use Rattle.election.specs.System.{fresh}
 use Rattle.election.specs.declared.System.{System}
-use Rattle.election.proofs.Accepting.{accepts}
 use Rattle.election.proofs.Follow.{follow-yes, follow-stops}
 use Rattle.election.proofs.FromOffset.{Walks, command-inside, from-end, from-refused, from-accepted}
-use Rattle.election.proofs.KeepsSound.{refusal-tests, keeps-sound}
+use Rattle.election.proofs.KeepsSound.{keeps-sound}
 
--- the three stops
+-- the stops
 abbrev halted : System → ℕ → Halt
-halted s at = record { reported = false; refusal = 0; offset = at; system = s }
+halted s at = record { full = false; refusal = 0; offset = at; system = s; listed = [] }
 
 abbrev refusedAt : System → ℕ → List ℕ → Halt
-refusedAt s at bytes = record { reported = false; refusal = command s bytes .refusal; offset = at; system = s }
+refusedAt s at bytes = record { full = false; refusal = command s bytes .refusal; offset = at; system = s; listed = [] }
 
-abbrev reportedAt : System → ℕ → List ℕ → Halt
-reportedAt s at bytes = record { reported = true; refusal = 0; offset = at + command s bytes .length; system = command s bytes .system }
+abbrev fullAt : System → ℕ → Halt
+fullAt s at = record { full = true; refusal = 0; offset = at; system = s; listed = [] }
 
-abbrev further : System → ℕ → List ℕ → Halt → Halt
-further s at bytes h = cond (eqb (getD bytes 0 0) 7) (reportedAt s at bytes) h
+-- what an accepted command lists
+abbrev textOf : Bool → System → List ℕ → List ℕ
+textOf list s bytes = cond (toList list bytes) (listing s) []
+
+abbrev further : Bool → System → ℕ → List ℕ → (ℕ → Halt) → ℕ → Halt
+further list s at bytes h room = cond (toList list bytes && ltb room longestListing) (fullAt s at) (after (textOf list s bytes) (h (room - length (textOf list s bytes))))
 
 chosen : {A : Type 0} (b : Bool) (x y : A) → elim b [ true ↦ x | false ↦ y ] ≡ cond b x y
 chosen true x y = refl
 chosen false x y = refl
 
-onward-walks : Walks halted refusedAt further onward
+onward-walks : (list : Bool) → Walks (λ s at room. halted s at) (λ s at bytes room. refusedAt s at bytes) (further list) (λ fuel s at bytes room. onward list fuel room s at bytes)
 unfolding onward
-onward-walks =
+onward-walks list =
     record {
       spent = λ s at bytes. refl;
       ended = λ fuel s at. refl;
-      refused = λ fuel s at b bytes ne. rw (ne-eqb (command s (b ∷ bytes) .refusal) 0 ne, onward);
-      accepted = λ fuel s at b bytes t. rw (eq-eqb (command s (b ∷ bytes) .refusal) 0 t, onward) (chosen (eqb b 7) _ _);
+      refused = λ fuel s at b bytes ne. fun-ext (λ room. rw (ne-eqb (command s (b ∷ bytes) .refusal) 0 ne, onward));
+      accepted = λ fuel s at b bytes t. fun-ext (λ room. rw (eq-eqb (command s (b ∷ bytes) .refusal) 0 t, onward) (chosen (toList list (b ∷ bytes) && ltb room longestListing) _ _));
     }
 
 -- the bytes from an offset begin with the byte there
 first-byte : (at : ℕ) (bytes : List ℕ) → getD (drop at bytes) 0 0 ≡ getD bytes at 0
 first-byte at bytes = getD-drop at bytes 0 0 ∙ ap (λ i. getD bytes i 0) (add-zero at)
 
-module _ (s : System) (at : ℕ) (bytes : List ℕ) where
-  pub go-end : length bytes ≤ at → goOn s at bytes ≡ record { reported = false; refusal = 0; offset = at; system = s }
-  go-end = from-end halted refusedAt further onward onward-walks s at bytes
+module _ (list : Bool) (room : ℕ) (s : System) (at : ℕ) (bytes : List ℕ) where
+  pub go-end : length bytes ≤ at → goOn list room s at bytes ≡ halted s at
+  go-end h = ap (λ (f : ℕ → Halt). f room) (from-end _ _ _ _ (onward-walks list) s at bytes h)
 
-  pub go-refused : at < length bytes → command s (drop at bytes) .refusal ≢ 0
-      → goOn s at bytes ≡ record { reported = false; refusal = command s (drop at bytes) .refusal; offset = at; system = s }
-  go-refused = from-refused halted refusedAt further onward onward-walks s at bytes
+  pub go-refused : at < length bytes → command s (drop at bytes) .refusal ≢ 0 → goOn list room s at bytes ≡ refusedAt s at (drop at bytes)
+  go-refused h ne = ap (λ (f : ℕ → Halt). f room) (from-refused _ _ _ _ (onward-walks list) s at bytes h ne)
 
-  pub go-report : command s (drop at bytes) .refusal ≡ 0 → getD bytes at 0 ≡ 7
-      → goOn s at bytes ≡ record { reported = true; refusal = 0; offset = at + command s (drop at bytes) .length; system = command s (drop at bytes) .system }
-  go-report t e =
-      from-accepted halted refusedAt further onward onward-walks s at bytes t
-      ∙ cond-yes _ _ (eq-eqb (getD (drop at bytes) 0 0) 7 (first-byte at bytes ∙ e))
+  module _ (t : command s (drop at bytes) .refusal ≡ 0) where
+    go-accepted : goOn list room s at bytes ≡ further list s at (drop at bytes) (λ room. goOn list room (command s (drop at bytes) .system) (at + command s (drop at bytes) .length) bytes) room
+    go-accepted = ap (λ (f : ℕ → Halt). f room) (from-accepted _ _ _ _ (onward-walks list) s at bytes t)
 
-  pub go-further : command s (drop at bytes) .refusal ≡ 0 → getD bytes at 0 ≢ 7
-      → goOn s at bytes ≡ goOn (command s (drop at bytes) .system) (at + command s (drop at bytes) .length) bytes
-  go-further t ne =
-      from-accepted halted refusedAt further onward onward-walks s at bytes t
-      ∙ cond-no _ _ (ne-eqb (getD (drop at bytes) 0 0) 7 (λ e. ne (sym (first-byte at bytes) ∙ e)))
+    pub go-full : toList list (drop at bytes) ≡ true → room < longestListing → goOn list room s at bytes ≡ fullAt s at
+    go-full a h = go-accepted ∙ cond-yes {b = toList list (drop at bytes) && ltb room longestListing} _ _ (rw (a, lt-ltb room longestListing h) refl)
 
--- what holds at each of the three stops, and before a command if it does after it, holds wherever going on begins
-module _ (bytes : List ℕ) (P : System → ℕ → Halt → Type 0)
-    (at-end : (s : System) (at : ℕ) → length bytes ≤ at → P s at (halted s at))
-    (at-refusal : (s : System) (at : ℕ) → at < length bytes → command s (drop at bytes) .refusal ≢ 0 → P s at (refusedAt s at (drop at bytes)))
-    (at-report : (s : System) (at : ℕ) → command s (drop at bytes) .refusal ≡ 0 → getD bytes at 0 ≡ 7 → P s at (reportedAt s at (drop at bytes)))
-    (before : (s : System) (at : ℕ) (h : Halt) → command s (drop at bytes) .refusal ≡ 0 → getD bytes at 0 ≢ 7
-    → P (command s (drop at bytes) .system) (at + command s (drop at bytes) .length) h → P s at h) where
-  go-by : (fuel : ℕ) (s : System) (at : ℕ) → length bytes ≤ at + fuel → P s at (goOn s at bytes)
-  go-by zero s at l = rw (go-end s at bytes (omega arith)) (at-end s at (omega arith))
-  go-by (suc fuel) s at l = here (decLt at (length bytes)) (go-by fuel)
+    -- otherwise it goes on, with what the command lists before the rest
+    pub go-after : (toList list (drop at bytes) ≡ true → longestListing ≤ room)
+        → goOn list room s at bytes ≡ after (textOf list s (drop at bytes)) (goOn list (room - length (textOf list s (drop at bytes))) (command s (drop at bytes) .system) (at + command s (drop at bytes) .length) bytes)
+    go-after f = go-accepted ∙ cond-no _ _ (enough (toList list (drop at bytes)) refl)
+      where
+        enough : (b : Bool) → toList list (drop at bytes) ≡ b → (b && ltb room longestListing) ≡ false
+        enough true a = le-ltb room longestListing (f a)
+        enough false a = refl
+
+-- what holds at each stop, and before a command if it does after it, holds wherever going on begins
+module _ (list : Bool) (bytes : List ℕ) (P : ℕ → System → ℕ → Halt → Type 0)
+    (at-end : (room : ℕ) (s : System) (at : ℕ) → length bytes ≤ at → P room s at (halted s at))
+    (at-refusal : (room : ℕ) (s : System) (at : ℕ) → at < length bytes → command s (drop at bytes) .refusal ≢ 0 → P room s at (refusedAt s at (drop at bytes)))
+    (at-full : (room : ℕ) (s : System) (at : ℕ) → at < length bytes → toList list (drop at bytes) ≡ true → room < longestListing → P room s at (fullAt s at))
+    (before : (room : ℕ) (s : System) (at : ℕ) (h : Halt) → command s (drop at bytes) .refusal ≡ 0
+    → P (room - length (textOf list s (drop at bytes))) (command s (drop at bytes) .system) (at + command s (drop at bytes) .length) h → P room s at (after (textOf list s (drop at bytes)) h)) where
+  go-by : (fuel room : ℕ) (s : System) (at : ℕ) → length bytes ≤ at + fuel → P room s at (goOn list room s at bytes)
+  go-by zero room s at l = rw (go-end list room s at bytes (omega arith)) (at-end room s at (omega arith))
+  go-by (suc fuel) room s at l = here (decLt at (length bytes)) (go-by fuel)
     where
-      here : Dec (at < length bytes) → ((s : System) (at : ℕ) → length bytes ≤ at + fuel → P s at (goOn s at bytes)) → P s at (goOn s at bytes)
-      here (no out) rest = rw (go-end s at bytes (omega arith)) (at-end s at (omega arith))
-      here (yes inside) rest = run (ℕ-discrete (command s (drop at bytes) .refusal) 0) (ℕ-discrete (getD bytes at 0) 7)
+      here : Dec (at < length bytes) → ((room : ℕ) (s : System) (at : ℕ) → length bytes ≤ at + fuel → P room s at (goOn list room s at bytes)) → P room s at (goOn list room s at bytes)
+      here (no out) rest = rw (go-end list room s at bytes (omega arith)) (at-end room s at (omega arith))
+      here (yes inside) rest = run (ℕ-discrete (command s (drop at bytes) .refusal) 0) (toList list (drop at bytes)) refl (decLt room longestListing)
         where
-          run : Dec (command s (drop at bytes) .refusal ≡ 0) → Dec (getD bytes at 0 ≡ 7) → P s at (goOn s at bytes)
-          run (no ne) d = rw (go-refused s at bytes inside ne) (at-refusal s at inside ne)
-          run (yes t) (yes e) = rw (go-report s at bytes t e) (at-report s at t e)
-          run (yes t) (no ne) = rw (go-further s at bytes t ne) (before s at _ t ne (rest _ _ (omega (arith, command-inside s at bytes t .0))))
+          on : command s (drop at bytes) .refusal ≡ 0 → (toList list (drop at bytes) ≡ true → longestListing ≤ room) → P room s at (goOn list room s at bytes)
+          on t f = rw (go-after list room s at bytes t f) (before room s at _ t (rest _ _ _ (omega (arith, command-inside s at bytes t .0))))
 
-  pub go-all : (s : System) (at : ℕ) → P s at (goOn s at bytes)
-  go-all s at = go-by (length bytes) s at (omega arith)
+          run : Dec (command s (drop at bytes) .refusal ≡ 0) → (b : Bool) → toList list (drop at bytes) ≡ b → Dec (room < longestListing) → P room s at (goOn list room s at bytes)
+          run (no ne) b a d = rw (go-refused list room s at bytes inside ne) (at-refusal room s at inside ne)
+          run (yes t) true a (yes h) = rw (go-full list room s at bytes t a h) (at-full room s at inside a h)
+          run (yes t) true a (no h) = on t (λ e. omega arith)
+          run (yes t) false a d = on t (λ e. absurd (true≢false (sym e ∙ a)))
 
-pub go-sound : (s : System) (at : ℕ) (bytes : List ℕ) → sound s ≡ true → sound (goOn s at bytes .system) ≡ true
-go-sound s at bytes =
-    go-all bytes (λ s at h. sound s ≡ true → sound (h .system) ≡ true)
-    (λ s at l e. e) (λ s at l ne e. e) (λ s at t e. keeps-sound s (drop at bytes)) (λ s at h t ne after e. after (keeps-sound s (drop at bytes) e))
-    s at
+  pub go-all : (room : ℕ) (s : System) (at : ℕ) → P room s at (goOn list room s at bytes)
+  go-all room s at = go-by (length bytes) room s at (omega arith)
+
+pub go-sound : (list : Bool) (room : ℕ) (s : System) (at : ℕ) (bytes : List ℕ) → sound s ≡ true → sound (goOn list room s at bytes .system) ≡ true
+go-sound list room s at bytes =
+    go-all list bytes (λ room s at h. sound s ≡ true → sound (h .system) ≡ true)
+    (λ room s at l e. e) (λ room s at l ne e. e) (λ room s at l a h e. e) (λ room s at h t later e. later (keeps-sound s (drop at bytes) e))
+    room s at
 
 -- the rest of a schedule from an offset, and the listings of its accepted reports
 abbrev pub rest : System → ℕ → List ℕ → End
@@ -157,130 +166,131 @@ module _ (s : System) (at : ℕ) (bytes : List ℕ) where
   list-accepted : command s (drop at bytes) .refusal ≡ 0 → listings s at bytes ≡ reported s (drop at bytes) ++ listings (command s (drop at bytes) .system) (at + command s (drop at bytes) .length) bytes
   list-accepted = from-accepted _ _ _ _ reports-walks s at bytes
 
--- a report leaves the system as it is
-decode-report : (bytes : List ℕ) → getD bytes 0 0 ≡ 7 → decode bytes ≡ Report
-unfolding decode
-decode-report bytes e = rw e
-
-report-same : (s : System) (bytes : List ℕ) → getD bytes 0 0 ≡ 7 → command s bytes .system ≡ s
-unfolding command perform
-report-same s bytes e = rw (decode-report bytes e) (cond-elim (λ (x : System). x ≡ s) (eqb (refusal s bytes) 0) (λ t. refl) (λ t. refl))
-
--- and it is accepted by a system that is set up
-report-ready : (s : System) (bytes : List ℕ) → getD bytes 0 0 ≡ 7 → command s bytes .refusal ≡ 0 → s .ready ≡ true
-unfolding command
-report-ready s bytes e t = accepts Report s (subst (λ c. firstFailed (tests s c) ≡ 0) (decode-report bytes e) (refusal-tests s bytes t))
-
--- what a stop at a report says of the rest of the schedule, and what another stop says
-record AtReport (bytes : List ℕ) (s : System) (at : ℕ) (h : Halt) : Type 0 where
+-- what a stop for want of room says of the rest of the schedule, and what another stop says
+record AtFull (bytes : List ℕ) (s : System) (at : ℕ) (h : Halt) : Type 0 where
   goes-on : rest s at bytes ≡ rest (h .system) (h .offset) bytes
-  lists : listings s at bytes ≡ listing (h .system) ++ listings (h .system) (h .offset) bytes
-  ready : h .system .ready ≡ true
-  above : at < h .offset
-  within : h .offset ≤ length bytes
+  lists-more : listings s at bytes ≡ h .listed ++ listings (h .system) (h .offset) bytes
+  within : h .offset < length bytes
 
-record AtEnd (bytes : List ℕ) (s : System) (at : ℕ) (h : Halt) : Type 0 where
+record AtEnd (list : Bool) (bytes : List ℕ) (s : System) (at : ℕ) (h : Halt) : Type 0 where
   ends : rest s at bytes ≡ ending h
-  lists-none : listings s at bytes ≡ []
+  lists-all : list ≡ true → listings s at bytes ≡ h .listed
 
-abbrev Stops : List ℕ → System → ℕ → Halt → Type 0
-Stops bytes s at h = (h .reported ≡ true → AtReport bytes s at h) × (h .reported ≡ false → AtEnd bytes s at h)
+record Stops (list : Bool) (bytes : List ℕ) (room : ℕ) (s : System) (at : ℕ) (h : Halt) : Type 0 where
+  at-full : h .full ≡ true → AtFull bytes s at h
+  at-end : h .full ≡ false → AtEnd list bytes s at h
+  listing-on : h .full ≡ true → list ≡ true
+  not-below : at ≤ h .offset
+  above : h .full ≡ true → longestListing ≤ room → at < h .offset
 
-module _ (bytes : List ℕ) where
-  -- nothing is listed for another command
-  list-further : (s : System) (at : ℕ) → command s (drop at bytes) .refusal ≡ 0 → getD bytes at 0 ≢ 7
-      → listings s at bytes ≡ listings (command s (drop at bytes) .system) (at + command s (drop at bytes) .length) bytes
-  unfolding reported
-  list-further s at t ne = list-accepted s at bytes t ∙ rw (ne-eqb (getD (drop at bytes) 0 0) 7 (λ e. ne (sym (first-byte at bytes) ∙ e)))
+-- what is listed for an accepted report
+text-is : (list : Bool) (s : System) (bytes : List ℕ) → list ≡ true → textOf list s bytes ≡ reported s bytes
+unfolding reported
+text-is list s bytes e = rw e
 
-  list-report : (s : System) (at : ℕ) → command s (drop at bytes) .refusal ≡ 0 → getD bytes at 0 ≡ 7
-      → listings s at bytes ≡ listing (command s (drop at bytes) .system) ++ listings (command s (drop at bytes) .system) (at + command s (drop at bytes) .length) bytes
-  unfolding reported
-  list-report s at t e =
-      let b : getD (drop at bytes) 0 0 ≡ 7 = first-byte at bytes ∙ e in
-      list-accepted s at bytes t
-      ∙ ap (λ x. x ++ listings (command s (drop at bytes) .system) (at + command s (drop at bytes) .length) bytes)
-      (cond-yes _ _ (eq-eqb (getD (drop at bytes) 0 0) 7 b) ∙ ap listing (sym (report-same s (drop at bytes) b)))
+-- nothing of both
+not-both : {A : Type 0} {b : Bool} → b ≡ false → b ≡ true → A
+not-both f t = absurd (true≢false (sym t ∙ f))
 
-  stops : (s : System) (at : ℕ) → Stops bytes s at (goOn s at bytes)
-  stops =
-      go-all bytes (Stops bytes)
-      (λ s at l. ((λ e. absurd (true≢false (sym e))), (λ e. record { ends = rest-end s at bytes l; lists-none = list-end s at bytes l })))
-      (λ s at l ne. ((λ e. absurd (true≢false (sym e))), (λ e. record { ends = rest-refused s at bytes l ne; lists-none = list-refused s at bytes l ne })))
-      (λ s at t e. (
-        (λ r.
-            let b : getD (drop at bytes) 0 0 ≡ 7 = first-byte at bytes ∙ e in
-            record {
-              goes-on = rest-accepted s at bytes t;
-              lists = list-report s at t e;
-              ready = ap (λ x. x .ready) (report-same s (drop at bytes) b) ∙ report-ready s (drop at bytes) b t;
-              above = command-inside s at bytes t .0;
-              within = command-inside s at bytes t .1;
-            }),
-        (λ r. absurd (true≢false r)),
-      ))
-      (λ s at h t ne after. (
-        (λ r. let a = after .0 r in
-            record {
-              goes-on = rest-accepted s at bytes t ∙ a .goes-on;
-              lists = list-further s at t ne ∙ a .lists;
-              ready = a .ready;
-              above = omega (arith, command-inside s at bytes t .0, a .above);
-              within = a .within;
-            }),
-        (λ r. let a = after .1 r in record { ends = rest-accepted s at bytes t ∙ a .ends; lists-none = list-further s at t ne ∙ a .lists-none }),
-      ))
+stops : (list : Bool) (bytes : List ℕ) (room : ℕ) (s : System) (at : ℕ) → Stops list bytes room s at (goOn list room s at bytes)
+stops list bytes =
+    go-all list bytes (Stops list bytes)
+    (λ room s at l.
+    record {
+      at-full = not-both refl;
+      at-end = λ e. record { ends = rest-end s at bytes l; lists-all = λ o. list-end s at bytes l };
+      listing-on = not-both refl;
+      not-below = omega arith;
+      above = not-both refl;
+    })
+    (λ room s at l ne.
+    record {
+      at-full = not-both refl;
+      at-end = λ e. record { ends = rest-refused s at bytes l ne; lists-all = λ o. list-refused s at bytes l ne };
+      listing-on = not-both refl;
+      not-below = omega arith;
+      above = not-both refl;
+    })
+    (λ room s at l a h.
+    record {
+      at-full = λ e. record { goes-on = refl; lists-more = refl; within = l };
+      at-end = λ e. not-both e refl;
+      listing-on = λ e. both list (eqb (getD (drop at bytes) 0 0) 7) a .0;
+      not-below = omega arith;
+      above = λ e r. absurd (omega arith);
+    })
+    (λ room s at h t later.
+    let (low, high) = command-inside s at bytes t in
+    let listed-first : list ≡ true → listings s at bytes ≡ textOf list s (drop at bytes) ++ listings (command s (drop at bytes) .system) (at + command s (drop at bytes) .length) bytes =
+    λ o. list-accepted s at bytes t ∙ ap (λ x. x ++ listings (command s (drop at bytes) .system) (at + command s (drop at bytes) .length) bytes) (sym (text-is list s (drop at bytes) o)) in
+    record {
+      at-full = λ e. let f = later .at-full e in
+          record {
+            goes-on = rest-accepted s at bytes t ∙ f .goes-on;
+            lists-more = listed-first (later .listing-on e) ∙ ap (λ x. textOf list s (drop at bytes) ++ x) (f .lists-more) ∙ sym (append-assoc (textOf list s (drop at bytes)) (h .listed) (listings (h .system) (h .offset) bytes));
+            within = f .within;
+          };
+      at-end = λ e. let f = later .at-end e in
+          record {
+            ends = rest-accepted s at bytes t ∙ f .ends;
+            lists-all = λ o. listed-first o ∙ ap (λ x. textOf list s (drop at bytes) ++ x) (f .lists-all o);
+          };
+      listing-on = later .listing-on;
+      not-below = omega (arith, low, later .not-below);
+      above = λ e r. omega (arith, low, later .not-below);
+    })
 
-module _ (s : System) (at : ℕ) (bytes : List ℕ) where
-  pub rest-reported : goOn s at bytes .reported ≡ true → rest s at bytes ≡ rest (goOn s at bytes .system) (goOn s at bytes .offset) bytes
-  rest-reported e = stops bytes s at .0 e .goes-on
+module _ (room : ℕ) (s : System) (at : ℕ) (bytes : List ℕ) where
+  -- asked for no listings, it comes to the end of the schedule
+  pub unlisted-end : ending (goOn false room s at bytes) ≡ rest s at bytes
+  unlisted-end = sym (stops false bytes room s at .at-end (not-full (goOn false room s at bytes .full) refl) .ends)
+    where
+      not-full : (b : Bool) → goOn false room s at bytes .full ≡ b → goOn false room s at bytes .full ≡ false
+      not-full true e = not-both refl (stops false bytes room s at .listing-on e)
+      not-full false e = e
 
-  pub offset-reported : goOn s at bytes .reported ≡ true → (at < goOn s at bytes .offset) × (goOn s at bytes .offset ≤ length bytes)
-  offset-reported e = let r = stops bytes s at .0 e in (r .above, r .within)
-
-  pub ready-reported : goOn s at bytes .reported ≡ true → goOn s at bytes .system .ready ≡ true
-  ready-reported e = stops bytes s at .0 e .ready
-
-  pub rest-ended : goOn s at bytes .reported ≡ false → rest s at bytes ≡ ending (goOn s at bytes)
-  rest-ended e = stops bytes s at .1 e .ends
+  -- where it stops for want of room, it has come further in the schedule
+  pub full-further : longestListing ≤ room → goOn true room s at bytes .full ≡ true → (at < goOn true room s at bytes .offset) × (goOn true room s at bytes .offset < length bytes)
+  full-further r e = (stops true bytes room s at .above e r, stops true bytes room s at .at-full e .within)
 
 -- a schedule is the rest of it from the start
 pub rest-schedule : (bytes : List ℕ) → length bytes ≤ mostBytes → rest fresh 0 bytes ≡ schedule bytes
 unfolding schedule
 rest-schedule bytes l = rw (le-ltb mostBytes (length bytes) l)
 
-module _ (fuel : ℕ) (s : System) (at : ℕ) (bytes : List ℕ) where
-  repeated-report : goOn s at bytes .reported ≡ true
-      → repeated (suc fuel) s at bytes ≡ listing (goOn s at bytes .system) ++ repeated fuel (goOn s at bytes .system) (goOn s at bytes .offset) bytes
+module _ (fuel room : ℕ) (s : System) (at : ℕ) (bytes : List ℕ) where
+  repeated-full : goOn true room s at bytes .full ≡ true
+      → repeated (suc fuel) room s at bytes ≡ goOn true room s at bytes .listed ++ repeated fuel room (goOn true room s at bytes .system) (goOn true room s at bytes .offset) bytes
   unfolding repeated
-  repeated-report e = rw (e, repeated)
+  repeated-full e = rw (e, repeated)
 
-  repeated-end : goOn s at bytes .reported ≡ false → repeated (suc fuel) s at bytes ≡ listings s at bytes ++ lastLine (rest s at bytes)
+  repeated-end : goOn true room s at bytes .full ≡ false → repeated (suc fuel) room s at bytes ≡ listings s at bytes ++ lastLine (rest s at bytes)
   unfolding repeated
-  repeated-end e = let r = stops bytes s at .1 e in rw (r .lists-none, r .ends, e, repeated)
+  repeated-end e = let r = stops true bytes room s at .at-end e in rw (r .lists-all refl, r .ends, e, repeated)
 
 -- what going on prints from an offset: the listings and the last line of the rest
-repeated-rest : (fuel : ℕ) (s : System) (at : ℕ) (bytes : List ℕ) → length bytes ≤ at + fuel → repeated (suc fuel) s at bytes ≡ listings s at bytes ++ lastLine (rest s at bytes)
-repeated-rest zero s at bytes l = stop (goOn s at bytes .reported) refl
+repeated-rest : (fuel room : ℕ) (s : System) (at : ℕ) (bytes : List ℕ) → longestListing ≤ room → length bytes ≤ at + fuel
+    → repeated (suc fuel) room s at bytes ≡ listings s at bytes ++ lastLine (rest s at bytes)
+repeated-rest zero room s at bytes r l = stop (goOn true room s at bytes .full) refl
   where
-    stop : (b : Bool) → goOn s at bytes .reported ≡ b → repeated 1 s at bytes ≡ listings s at bytes ++ lastLine (rest s at bytes)
-    stop true e = absurd (omega (arith, offset-reported s at bytes e))
-    stop false e = repeated-end zero s at bytes e
-repeated-rest (suc fuel) s at bytes l = stop (goOn s at bytes .reported) refl (repeated-rest fuel)
+    stop : (b : Bool) → goOn true room s at bytes .full ≡ b → repeated 1 room s at bytes ≡ listings s at bytes ++ lastLine (rest s at bytes)
+    stop true e = absurd (omega (arith, full-further room s at bytes r e))
+    stop false e = repeated-end zero room s at bytes e
+repeated-rest (suc fuel) room s at bytes r l = stop (goOn true room s at bytes .full) refl (repeated-rest fuel room)
   where
-    stop : (b : Bool) → goOn s at bytes .reported ≡ b
-        → ((s : System) (at : ℕ) (bytes : List ℕ) → length bytes ≤ at + fuel → repeated (suc fuel) s at bytes ≡ listings s at bytes ++ lastLine (rest s at bytes))
-        → repeated (suc (suc fuel)) s at bytes ≡ listings s at bytes ++ lastLine (rest s at bytes)
+    stop : (b : Bool) → goOn true room s at bytes .full ≡ b
+        → ((s : System) (at : ℕ) (bytes : List ℕ) → longestListing ≤ room → length bytes ≤ at + fuel → repeated (suc fuel) room s at bytes ≡ listings s at bytes ++ lastLine (rest s at bytes))
+        → repeated (suc (suc fuel)) room s at bytes ≡ listings s at bytes ++ lastLine (rest s at bytes)
     stop true e next =
-        let r = stops bytes s at .0 e in
-        let h : Halt = goOn s at bytes in
-        repeated-report (suc fuel) s at bytes e
-        ∙ ap (λ x. listing (h .system) ++ x) (next (h .system) (h .offset) bytes (omega (arith, r .above)))
-        ∙ sym (append-assoc (listing (h .system)) (listings (h .system) (h .offset) bytes) (lastLine (rest (h .system) (h .offset) bytes)))
-        ∙ ap (λ x. x ++ lastLine (rest (h .system) (h .offset) bytes)) (sym (r .lists))
-        ∙ ap (λ x. listings s at bytes ++ lastLine x) (sym (r .goes-on))
-    stop false e next = repeated-end (suc fuel) s at bytes e
+        let f = stops true bytes room s at .at-full e in
+        let h : Halt = goOn true room s at bytes in
+        repeated-full (suc fuel) room s at bytes e
+        ∙ ap (λ x. h .listed ++ x) (next (h .system) (h .offset) bytes r (omega (arith, full-further room s at bytes r e)))
+        ∙ sym (append-assoc (h .listed) (listings (h .system) (h .offset) bytes) (lastLine (rest (h .system) (h .offset) bytes)))
+        ∙ ap (λ x. x ++ lastLine (rest (h .system) (h .offset) bytes)) (sym (f .lists-more))
+        ∙ ap (λ x. listings s at bytes ++ lastLine x) (sym (f .goes-on))
+    stop false e next = repeated-end (suc fuel) room s at bytes e
 
 pub repeats-holds : Repeats
 unfolding output
-repeats-holds bytes l = repeated-rest (length bytes) fresh 0 bytes (omega arith) ∙ rw (le-ltb mostBytes (length bytes) l, rest-schedule bytes l)
+repeats-holds room bytes r l = repeated-rest (length bytes) room fresh 0 bytes r (omega arith) ∙ rw (le-ltb mostBytes (length bytes) l, rest-schedule bytes l)

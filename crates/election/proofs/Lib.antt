@@ -13,6 +13,7 @@ pub mod Delivery
 pub mod Demand
 pub mod Earlier
 pub mod Exact
+pub mod FirstOnly
 pub mod Follow
 pub mod Follower
 pub mod FromOffset

@@ -146,11 +146,15 @@ verdictLine (Agreed l) = agreedWord ++ decimal l ++ newline
 verdictLine Split = splitWord ++ newline
 
 -- the tick, a line for each station, and the verdict
-unfoldable pub listing : System → List ℕ
-listing s =
-    tickWord ++ decimal (s .tick) ++ newline
-    ++ stationLines (s .n) (s .stations) (s .sent)
-    ++ verdictLine (verdict (s .n) (s .stations))
+unfoldable pub listingOf : ℕ → ℕ → List Station → List ℕ → List ℕ
+listingOf n tick stations sent = tickWord ++ decimal tick ++ newline ++ stationLines n stations sent ++ verdictLine (verdict n stations)
+
+abbrev pub listing : System → List ℕ
+listing s = listingOf (s .n) (s .tick) (s .stations) (s .sent)
+
+-- room that is enough for every listing of at most eight stations
+abbrev pub longestListing : ℕ
+longestListing = 2700
 
 -- what Listing leaves: the refusal, the length written, and the buffer
 pub record Listed : Type 0 where

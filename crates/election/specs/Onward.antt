@@ -1,72 +1,66 @@
--- Going on with a schedule, from a system and an offset, to just after the next accepted report, the end or the refusal.
+-- Going on with a schedule, from a system and an offset, with room for a number of bytes of listings.
 use mathlib.Core.Path.{_≡_}
 use mathlib.Core.List.{List, [], _∷_, _++_}
-use mathlib.Core.Bool.{Bool, true, false}
-use Prim.Native.Nat.{ℕ, zero, suc, _+_, _≤_}
-use lib.ListN.{length, drop}
-use lib.Dec.{eqb}
-use Rattle.election.specs.Commands.{Result, command, numberOf}
-use Rattle.election.specs.Listing.{listing, lastLine, output}
-use Rattle.election.specs.Schedule.{End as ScheduleEnd, mostBytes}
+use mathlib.Core.Bool.{Bool, true, false, cond, _&&_}
+use Prim.Native.Nat.{ℕ, zero, suc, _+_, _-_, _≤_}
+use lib.ListN.{length, getD, drop}
+use lib.Dec.{ltb, eqb}
+use Rattle.election.specs.Commands.{Result, command}
+use Rattle.election.specs.Listing.{listing, longestListing, lastLine, output}
+use Rattle.election.specs.Schedule.{End, mostBytes}
 use Rattle.election.specs.System.{fresh}
-use Rattle.election.specs.declared.Onward.{Onward}
-use Rattle.election.specs.declared.Stop.{Stop}
-use Rattle.election.specs.declared.Stop.the-variants.{Report, End, Refused}
 use Rattle.election.specs.declared.System.{System}
 
--- where it stops: whether at a report; the refusal, 0 for none; the offset; the system there
+-- where it stops: whether for want of room; the refusal, 0 for none; the offset; the system there; what was listed on the way
 pub record Halt : Type 0 where
-  pub reported : Bool
+  pub full : Bool
   pub refusal : ℕ
   pub offset : ℕ
   pub system : System
+  pub listed : List ℕ
 
--- the commands of the bytes up to the first accepted report, from a system and an offset, at most `fuel` of them
-unfoldable pub onward : ℕ → System → ℕ → List ℕ → Halt
-onward zero s at bytes = record { reported = false; refusal = 0; offset = at; system = s }
-onward (suc fuel) s at [] = record { reported = false; refusal = 0; offset = at; system = s }
-onward (suc fuel) s at (b ∷ bytes) =
+-- .. with a text listed before
+abbrev pub after : List ℕ → Halt → Halt
+after text h = record { full = h .full; refusal = h .refusal; offset = h .offset; system = h .system; listed = text ++ h .listed }
+
+-- the first command of the bytes is a report that is to be listed
+abbrev pub toList : Bool → List ℕ → Bool
+toList list bytes = list && eqb (getD bytes 0 0) 7
+
+-- the commands of the bytes, at most `fuel` of them, to the end or the refusal. Asked to list, an accepted report adds its listing; where
+-- the room left is not enough for every listing, it is the stop, and is still to be done.
+unfoldable pub onward : Bool → ℕ → ℕ → System → ℕ → List ℕ → Halt
+onward list zero room s at bytes = record { full = false; refusal = 0; offset = at; system = s; listed = [] }
+onward list (suc fuel) room s at [] = record { full = false; refusal = 0; offset = at; system = s; listed = [] }
+onward list (suc fuel) room s at (b ∷ bytes) =
     let r : Result = command s (b ∷ bytes) in
+    let text : List ℕ = cond (toList list (b ∷ bytes)) (listing s) [] in
     elim (eqb (r .refusal) 0) [
-      | true ↦ elim (eqb b 7) [
-        | true ↦ record { reported = true; refusal = 0; offset = at + r .length; system = r .system }
-        | false ↦ onward fuel (r .system) (at + r .length) (drop (r .length) (b ∷ bytes))
+      | true ↦ elim (toList list (b ∷ bytes) && ltb room longestListing) [
+        | true ↦ record { full = true; refusal = 0; offset = at; system = s; listed = [] }
+        | false ↦ after text (onward list fuel (room - length text) (r .system) (at + r .length) (drop (r .length) (b ∷ bytes)))
       ]
-      | false ↦ record { reported = false; refusal = r .refusal; offset = at; system = s }
+      | false ↦ record { full = false; refusal = r .refusal; offset = at; system = s; listed = [] }
     ]
 
 -- going on with a schedule from an offset in it
-abbrev pub goOn : System → ℕ → List ℕ → Halt
-goOn s at bytes = onward (length bytes) s at (drop at bytes)
+abbrev pub goOn : Bool → ℕ → System → ℕ → List ℕ → Halt
+goOn list room s at bytes = onward list (length bytes) room s at (drop at bytes)
 
--- whether an answer is a report, and its number
-abbrev pub reportedOf : Stop → Bool
-reportedOf Report = true
-reportedOf End = false
-reportedOf (Refused r) = false
-
-abbrev pub refusalOf : Stop → ℕ
-refusalOf Report = 0
-refusalOf End = 0
-refusalOf (Refused r) = numberOf r
-
-abbrev pub said : Onward → Halt
-said r = record { reported = reportedOf (r .stop); refusal = refusalOf (r .stop); offset = r .at; system = r .system }
-
--- a stop that is no report, as the end of the schedule
-abbrev pub ending : Halt → ScheduleEnd
+-- a stop that is not for want of room, as the end of the schedule
+abbrev pub ending : Halt → End
 ending h = record { refusal = h .refusal; offset = h .offset; system = h .system }
 
--- what going on again and again prints: the listing at each report, and the last line
-unfoldable pub repeated : ℕ → System → ℕ → List ℕ → List ℕ
-repeated zero s at bytes = []
-repeated (suc fuel) s at bytes =
-    let h : Halt = goOn s at bytes in
-    elim (h .reported) [
-      | true ↦ listing (h .system) ++ repeated fuel (h .system) (h .offset) bytes
-      | false ↦ lastLine (ending h)
+-- what going on again and again prints, each time with the same room: what was listed, and at last the last line
+unfoldable pub repeated : ℕ → ℕ → System → ℕ → List ℕ → List ℕ
+repeated zero room s at bytes = []
+repeated (suc fuel) room s at bytes =
+    let h : Halt = goOn true room s at bytes in
+    elim (h .full) [
+      | true ↦ h .listed ++ repeated fuel room (h .system) (h .offset) bytes
+      | false ↦ h .listed ++ lastLine (ending h)
     ]
 
--- going on again and again from the start prints what the rehearsal program prints
+-- with room for a listing, going on again and again from the start prints what the rehearsal program prints
 abbrev pub Repeats : Type 0
-Repeats = (bytes : List ℕ) → length bytes ≤ mostBytes → repeated (suc (length bytes)) fresh 0 bytes ≡ output bytes
+Repeats = (room : ℕ) (bytes : List ℕ) → longestListing ≤ room → length bytes ≤ mostBytes → repeated (suc (length bytes)) room fresh 0 bytes ≡ output bytes

@@ -82,17 +82,3 @@ pub struct Scheduled {
     pub ended: Ended,
     pub system: System,
 }
-
-// Where going on with a schedule stops: just after an accepted report, at the schedule's end, or before a refused command.
-pub enum Stop {
-    Report,
-    End,
-    Refused(Refusal),
-}
-
-// .. with the offset and the system there.
-pub struct Onward {
-    pub stop: Stop,
-    pub at: usize,
-    pub system: System,
-}

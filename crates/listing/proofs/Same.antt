@@ -8,7 +8,7 @@ use lib.ListN.{length, length-append}
 use Rattle.station.specs.declared.Station.{Station}
 use Rattle.election.specs.declared.System.{System}
 use Rattle.election.specs.declared.Verdict.{Verdict}
-use Rattle.election.specs.Listing.{decimal, newline, tickWord, incWord, recWord, sentWord, keptWord, noneWord, named, vector, status, leaderOf, vectorOf, stationLine, stationLines, verdict, verdictLine, listing}
+use Rattle.election.specs.Listing.{decimal, newline, tickWord, incWord, recWord, sentWord, keptWord, noneWord, named, vector, status, leaderOf, vectorOf, stationLine, stationLines, verdict, verdictLine, listing, listingOf}
 use Rattle.listing.specs.Pieces.{who, known, ends}
 use Rattle.listing.proofs.Parts.{room-first}
 
@@ -26,24 +26,24 @@ pub room-line : (n p : ℕ) (x : Station) (sent : ℕ) {m : ℕ} → length (sta
 room-line n p x sent {m} h = subst (λ l. length l ≤ m) (line-is n p x sent) h
 
 -- the tick, the lines and the verdict are the listing
-pub listing-is : (s : System) (v : Verdict) → v ≡ verdict (s .n) (s .stations) → tickWord ++ decimal (s .tick) ++ newline ++ stationLines (s .n) (s .stations) (s .sent) ++ verdictLine v ≡ listing s
-unfolding listing
-listing-is s v e = rw e
+pub listing-is : (n tick : ℕ) (stations : List Station) (sent : List ℕ) (v : Verdict) → v ≡ verdict n stations → tickWord ++ decimal tick ++ newline ++ stationLines n stations sent ++ verdictLine v ≡ listingOf n tick stations sent
+unfolding listingOf
+listing-is n tick stations sent v e = rw e
 
 -- so there is room for them where there is room for it
-pub room : (s : System) (v : Verdict) {n : ℕ} → v ≡ verdict (s .n) (s .stations) → length (listing s) ≤ n → length (tickWord ++ decimal (s .tick) ++ newline ++ stationLines (s .n) (s .stations) (s .sent) ++ verdictLine v) ≤ n
-room s v {n} e h = subst (λ l. length l ≤ n) (sym (listing-is s v e)) h
+pub room : (n tick : ℕ) (stations : List Station) (sent : List ℕ) (v : Verdict) {m : ℕ} → v ≡ verdict n stations → length (listingOf n tick stations sent) ≤ m → length (tickWord ++ decimal tick ++ newline ++ stationLines n stations sent ++ verdictLine v) ≤ m
+room n tick stations sent v {m} e h = subst (λ l. length l ≤ m) (sym (listing-is n tick stations sent v e)) h
 
-pub room-tick : (s : System) {n : ℕ} → length (listing s) ≤ n → length (tickWord ++ decimal (s .tick) ++ newline) ≤ n
-room-tick s h =
-    let v : Verdict = verdict (s .n) (s .stations) in
-    let tick : List ℕ = tickWord ++ decimal (s .tick) ++ newline in
-    let ls : List ℕ = stationLines (s .n) (s .stations) (s .sent) in
-    room-first tick ls (room-first (tick ++ ls) (verdictLine v) (room s v refl h))
+pub room-tick : (n tick : ℕ) (stations : List Station) (sent : List ℕ) {m : ℕ} → length (listingOf n tick stations sent) ≤ m → length (tickWord ++ decimal tick ++ newline) ≤ m
+room-tick n tick stations sent h =
+    let v : Verdict = verdict n stations in
+    let first : List ℕ = tickWord ++ decimal tick ++ newline in
+    let ls : List ℕ = stationLines n stations sent in
+    room-first first ls (room-first (first ++ ls) (verdictLine v) (room n tick stations sent v refl h))
 
 -- and its length is the sum of theirs
 pub size-is : (s : System) (v : Verdict) → v ≡ verdict (s .n) (s .stations) → length (listing s) ≡ length (decimal (s .tick)) + length (stationLines (s .n) (s .stations) (s .sent)) + length (verdictLine v) + 6
-size-is s v e = rw (sym (listing-is s v e), length-append (tickWord ++ decimal (s .tick) ++ newline ++ stationLines (s .n) (s .stations) (s .sent)) (verdictLine v), length-append (tickWord ++ decimal (s .tick) ++ newline) (stationLines (s .n) (s .stations) (s .sent)), length-append (tickWord ++ decimal (s .tick)) newline) (omega arith)
+size-is s v e = rw (sym (listing-is (s .n) (s .tick) (s .stations) (s .sent) v e), length-append (tickWord ++ decimal (s .tick) ++ newline ++ stationLines (s .n) (s .stations) (s .sent)) (verdictLine v), length-append (tickWord ++ decimal (s .tick) ++ newline) (stationLines (s .n) (s .stations) (s .sent)), length-append (tickWord ++ decimal (s .tick)) newline) (omega arith)
 
 -- the length of what a station knows
 pub known-up : (n : ℕ) (x : Station) → x .up ≡ true → length (known n x) ≡ length (decimal (x .incarnation)) + length (vector n (x .recovered)) + 10

@@ -25,5 +25,7 @@ pub fn listing(s: System, buffer: &mut [u8]) -> Answer
     if buffer.len() < listing_size(s) {
         return Answer::Refused(Refusal::BufferShort);
     }
-    Answer::Done(write_listing(s, buffer))
+    let stations = s.stations;
+    let sent = s.sent;
+    Answer::Done(write_listing(s.n, s.tick, stations, sent, buffer))
 }

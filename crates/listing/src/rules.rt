@@ -3,14 +3,13 @@ ghost use mathlib.Core.Path.{_≡_};
 ghost use Prim.Native.Nat.{_+_, _≤_};
 ghost use lib.ListN.{length};
 ghost use mathlib.Core.Bool.{cond};
-ghost use Rattle.election.specs.Listing.{upWord, downWord, countOf, vector, status, leaderOf, vectorOf, stationLine, stationLines, dark, trusts, agreed, leaderAfter, aLeader, verdict, verdictLine, listing};
+ghost use Rattle.election.specs.Listing.{upWord, downWord, countOf, vector, status, leaderOf, vectorOf, stationLine, stationLines, dark, trusts, agreed, leaderAfter, aLeader, verdict, verdictLine, listingOf};
 ghost use Rattle.listing.specs.Pieces.{who, known, ends};
 ghost use Rattle.listing.specs.Wrote.{Wrote};
 use crate::text::put;
 use crate::text::put_decimal;
 use crate::text::put_last;
 use crate::text::put_named;
-use election::System;
 use election::Verdict;
 use station::Station;
 
@@ -213,16 +212,20 @@ fn put_verdict(v: Verdict, buffer: &mut [u8]) -> usize
     }
 }
 
-// Writes the listing of a system at the front of a buffer that has room for it.
-pub fn write_listing(s: System, buffer: &mut [u8]) -> usize
-    requires { ⌜ (s .n ≤ 8) × (length (listing s) ≤ length (now buffer)) ⌝ }
-    ensures { λ r. ⌜ Wrote (listing s) (now (buffer .entry)) r (now (buffer .exit)) ⌝ }
+// Writes the listing of a system at the front of a buffer that has room for it, from what it shows of the system.
+pub fn write_listing(
+    n: u8,
+    tick: u32,
+    stations: [Station; 8],
+    sent: [u32; 8],
+    buffer: &mut [u8],
+) -> usize
+    requires { ⌜ (n ≤ 8) × (length (listingOf n tick stations sent) ≤ length (now buffer)) ⌝ }
+    ensures { λ r. ⌜ Wrote (listingOf n tick stations sent) (now (buffer .entry)) r (now (buffer .exit)) ⌝ }
 {
-    let n = s.n as usize;
-    let stations = s.stations;
-    let sent = s.sent;
-    let v = verdict(n, stations);
-    let a = put_last(b"tick ", s.tick as u64, buffer);
-    let b = a + put_lines(n, stations, sent, &mut buffer[a..]);
+    let most = n as usize;
+    let v = verdict(most, stations);
+    let a = put_last(b"tick ", tick as u64, buffer);
+    let b = a + put_lines(most, stations, sent, &mut buffer[a..]);
     b + put_verdict(v, &mut buffer[b..])
 }

@@ -117,3 +117,14 @@ module _ {A : Type 0} where
       same k (yes a) b = rw (lt-ltb k i a, lt-ltb k j (omega arith))
       same k (no a) (yes b) = rw (le-ltb k i (omega arith), lt-ltb k j b) (sym (h k (omega arith) b))
       same k (no a) (no b) = rw (le-ltb k i (omega arith), le-ltb k j (omega arith))
+
+-- what lies past a list that is laid over another
+pub over-beyond : {A : Type 0} (l old : List A) (i : ℕ) (d : A) → length l ≤ i → getD (over l old) i d ≡ getD old i d
+unfolding over
+over-beyond l old i d h =
+    let e : length l + (i - length l) ≡ i = omega arith in
+    ap (λ x. getD (l ++ drop (length l) old) x d) (sym e) ∙ getD-append-add l (drop (length l) old) (i - length l) d ∙ getD-drop (length l) old (i - length l) d ∙ ap (λ x. getD old x d) e
+
+pub over-front : {A : Type 0} (l old : List A) (i : ℕ) (d : A) → i < length l → getD (over l old) i d ≡ getD l i d
+unfolding over
+over-front l old i d h = List·getD-append l (drop (length l) old) d i h

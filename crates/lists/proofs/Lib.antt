@@ -7,5 +7,6 @@ pub mod Filter
 pub mod First
 pub mod Fold
 pub mod Largest
+pub mod Segment
 pub mod Sets
 pub mod Test

@@ -7,4 +7,5 @@ pub mod First
 pub mod Fold
 pub mod Join
 pub mod Largest
+pub mod Segment
 pub mod Test

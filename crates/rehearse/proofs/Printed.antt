@@ -1,46 +1,29 @@
--- What is printed at each stop of a schedule, and that a report leads on.
-use mathlib.Core.Path.{_≡_, refl, sym, ap, subst, _∙_}
+-- Where the program goes on with a schedule: a sound system, further on, with what was written in its buffer.
+use mathlib.Core.Path.{_≡_, sym, ap, _∙_}
 use mathlib.Core.List.{List}
-use mathlib.Core.Bool.{true, false}
+use mathlib.Core.Bool.{true}
 use Prim.Native.Nat.{ℕ, _<_, _≤_}
-use lib.ListN.{length}
-use Rattle.lists.proofs.Bools.{cond-elim}
-use Rattle.election.specs.Listing.{listing, endLine}
-use Rattle.election.specs.Onward.{Halt, goOn, reportedOf, refusalOf, said}
+use native.Mathlib.Omega.{arith}
+use lib.ListN.{length, drop, length-append}
+use Rattle.lists.specs.Entries.{over}
+use Rattle.election.specs.Listing.{longestListing}
+use Rattle.election.specs.Onward.{goOn}
 use Rattle.election.specs.Sound.{sound}
-use Rattle.election.specs.declared.Onward.{Onward}
-use Rattle.election.specs.declared.Stop.the-variants.{Report}
-use Rattle.election.specs.declared.System.{System}
-use Rattle.election.proofs.GoingOn.{go-sound, offset-reported, ready-reported}
-use Rattle.election.proofs.Soundness.{sound-of}
-use Rattle.listing.specs.Room.{longestListing}
-use Rattle.listing.specs.Wrote.{Wrote}
-use Rattle.listing.proofs.Room.{listing-room, end-room}
-use Rattle.rehearse.specs.Stops.{textOf}
+use Rattle.election.proofs.GoingOn.{go-sound, full-further}
+use Rattle.layout.specs.Layout.{systemOf}
+use Rattle.layout.specs.declared.Layout.{Layout}
+use Rattle.simulator.specs.Gone.{Gone, gone, fullOf, said}
+use Rattle.simulator.specs.declared.rules.Onward.{Onward}
 
--- the text of each stop
-pub at-report : (r : Onward) → r .stop ≡ Report → {old new : List ℕ} {size : ℕ} → Wrote (listing (r .system)) old size new → Wrote (textOf (said r)) old size new
-unfolding textOf
-at-report r e {old = old} {new = new} {size = size} w = subst (λ l. Wrote l old size new) (rw e refl) w
+module _ (s : Layout) (at : ℕ) (bytes old new : List ℕ) (r : Onward) (e : said r new ≡ gone true (systemOf s) at bytes old) where
+  pub stays-sound : sound (systemOf s) ≡ true → sound (systemOf (r .system)) ≡ true
+  stays-sound ok = rw (sym (ap (λ (g : Gone). g .system) e)) at (go-sound true (length old) (systemOf s) at bytes ok)
 
-pub at-end : (r : Onward) (number : ℕ) → reportedOf (r .stop) ≡ false → number ≡ refusalOf (r .stop) → {old new : List ℕ} {size : ℕ} → Wrote (endLine number (r .at)) old size new → Wrote (textOf (said r)) old size new
-unfolding textOf
-at-end r number e k {old = old} {new = new} {size = size} w = subst (λ l. Wrote l old size new) (rw (e, k) refl) w
+  pub leads-on : longestListing ≤ length old → fullOf (r .stop) ≡ true → (at < r .at) × (r .at < length bytes)
+  leads-on room t =
+      rw (sym (ap (λ (g : Gone). g .offset) e)) at (full-further (length old) (systemOf s) at bytes room (sym (ap (λ (g : Gone). g .full) e) ∙ t))
 
--- it fits a buffer for the longest listing
-pub text-room : (r : Onward) → (reportedOf (r .stop) ≡ true → r .system .n ≤ 8) → length (textOf (said r)) ≤ longestListing
-unfolding textOf
-text-room r few =
-    cond-elim (λ (l : List ℕ). length l ≤ longestListing) (reportedOf (r .stop))
-    (λ t. listing-room (r .system) (few t)) (λ f. end-room (refusalOf (r .stop)) (r .at))
-
--- a report leads on in the schedule, from a sound system of at most eight stations
-module _ (s : System) (at : ℕ) (bytes : List ℕ) (r : Onward) (e : said r ≡ goOn s at bytes) where
-  pub few-stations : sound s ≡ true → reportedOf (r .stop) ≡ true → r .system .n ≤ 8
-  few-stations ok t = rw (sym e) at (sound-of (goOn s at bytes .system) (go-sound s at bytes ok) (ready-reported s at bytes (sym (ap (λ (h : Halt). h .reported) e) ∙ t)) .n-high)
-
-  pub leads-on : reportedOf (r .stop) ≡ true → (at < r .at) × (r .at ≤ length bytes)
-  leads-on t = rw (sym e) at (offset-reported s at bytes (sym (ap (λ (h : Halt). h .reported) e) ∙ t))
-
-  pub stays-sound : sound s ≡ true → sound (r .system) ≡ true
-  stays-sound ok = rw (sym e) at (go-sound s at bytes ok)
+  -- what was written lies within the buffer
+  pub written-within : r .size ≤ length new
+  unfolding over
+  written-within = let l : List ℕ = goOn true (length old) (systemOf s) at bytes .listed in omega (arith, ap (λ (g : Gone). g .written) e, ap (λ (g : Gone). length (g .buffer)) e, length-append l (drop (length l) old))

@@ -1,2 +1,2 @@
--- What the program prints.
-pub mod Stops
+-- What the program reads.
+pub mod Sizes

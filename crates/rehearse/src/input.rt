@@ -1,7 +1,7 @@
 // The schedule, from standard input.
 ghost use Prim.Native.Nat.{_≤_};
 ghost use lib.ListN.{length};
-ghost use Rattle.rehearse.specs.Stops.{sizeOf};
+ghost use Rattle.rehearse.specs.Sizes.{sizeOf};
 use libc::STDIN_FILENO;
 
 // What was read: how many bytes, or that a read failed.

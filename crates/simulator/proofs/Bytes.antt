@@ -1,22 +1,26 @@
 -- The command byte and its operands.
-use mathlib.Core.Path.{_≡_, refl, sym, _∙_}
+use mathlib.Core.Path.{_≡_, refl, _∙_}
 use mathlib.Core.Logic.{_≢_}
 use mathlib.Core.List.{List, [], _∷_}
 use mathlib.Core.Bool.{Bool, true, false, cond}
 use Prim.Native.Nat.{ℕ, _+_, _*_, _<_, _≤_}
 use native.Mathlib.Decide.{decLt}
 use native.Mathlib.Omega.{arith}
-use lib.Dec.{eqb, ltb}
+use lib.Dec.{eqb}
 use lib.ListN.{length, getD}
-use borrow.Author.Tests.{lt-ltb, le-ltb, eqb-true, ne-eqb}
+use borrow.Author.Tests.{lt-ltb, le-ltb, le-leb, lt-leb, eqb-true, ne-eqb}
 use Rattle.lists.specs.First.{firstFailed}
 use Rattle.lists.specs.Test.{allTo}
 use Rattle.lists.proofs.Test.{all-at}
 use Rattle.station.specs.Fit.{within}
+use Rattle.station.specs.declared.Station.{Station}
+use Rattle.station.proofs.Tests.{of-within}
 use Rattle.election.specs.Sound.{sound}
-use Rattle.election.specs.Commands.{Command, SetUp, Start, Crash, Link, Run, Lose, Report, decode, operands, tests, ruling, refusal, outcome, command}
+use Rattle.election.specs.Commands.{Command, SetUp, Start, Crash, Link, Run, Lose, Report, decode, operands, tests, ruling, refusal, command}
+use Rattle.election.specs.System.{station}
 use Rattle.election.specs.declared.System.{System}
-use Rattle.simulator.proofs.Answers.{goes-on, stops, turned-down, within-yes, within-below, within-above}
+use Rattle.election.proofs.Soundness.{sound-of}
+use Rattle.simulator.specs.Decided.{Decided, Turned, Sees, decided}
 
 -- a test of all eight entries says what each is
 pub widths-rule : (table : List ℕ) (b : ℕ) → allTo 8 (λ k. eqb (getD table k 0) (operands (decode (k ∷ [])))) ≡ true → b < 8 → getD table b 0 ≡ operands (decode (b ∷ []))
@@ -57,7 +61,7 @@ known b h = go (decLt b 8) (decLt b 1)
   where
     go : Dec (b < 8) → Dec (b < 1) → within 1 b 7 ≡ true
     go (no high) low = absurd (omega (arith, none-above b (omega arith)))
-    go (yes high) (no low) = within-yes 1 b 7 (omega arith) (omega arith)
+    go (yes high) (no low) = of-within 1 b 7 (omega arith) (omega arith)
     go (yes high) (yes low) = absurd (omega (arith, none-at-zero b (omega arith)))
 
 -- 15 before all else
@@ -65,43 +69,31 @@ pub unsound : (s : System) (bytes : List ℕ) → sound s ≡ false → record {
 unfolding command refusal
 unsound s bytes e = rw e refl
 
-module _ (s : System) (bytes : List ℕ) (ok : sound s ≡ true) where
-  ruled : refusal s bytes ≡ ruling s bytes
-  unfolding refusal
-  ruled = rw ok
+-- where the bytes are more than the width, the operands are there
+pub enough : (bytes : List ℕ) {width : ℕ} {c : Command} → decode bytes ≡ c → width ≡ operands (decode (getD bytes 0 0 ∷ [])) → width < length bytes → operands c < length bytes
+enough bytes e w h = rw (← e, width-of bytes, ← w) h
 
+module _ (s : System) (bytes : List ℕ) where
   -- no bytes
-  pub no-bytes : length bytes ≡ 0 → record { refusal = 2; length = 0; system = s } ≡ command s bytes
-  unfolding command
-  no-bytes e = turned-down 1 (decode bytes) s (ruled ∙ stops (ltb 0 (length bytes)) _ 2 (le-ltb 0 (length bytes) (omega arith)))
+  pub no-bytes : length bytes ≡ 0 → Turned 2 ≡ decided (ruling s bytes) (decode bytes)
+  no-bytes e = rw e
 
-  module _ (some : 0 < length bytes) where
-    -- missing operands
-    pub too-few : length bytes ≤ operands (decode (getD bytes 0 0 ∷ [])) → record { refusal = 2; length = 0; system = s } ≡ command s bytes
-    unfolding command
-    too-few h =
-        turned-down 1 (decode bytes) s
-        (ruled ∙ goes-on (ltb 0 (length bytes)) _ 2 (lt-ltb 0 (length bytes) some)
-        (goes-on (within 1 (getD bytes 0 0) 7) _ 1 (known (getD bytes 0 0) (omega arith))
-        (stops (ltb (operands (decode bytes)) (length bytes)) _ 2 (le-ltb (operands (decode bytes)) (length bytes) (omega (arith, width-of bytes))))))
+  -- missing operands
+  pub too-few : 0 < length bytes → length bytes ≤ operands (decode (getD bytes 0 0 ∷ [])) → Turned 2 ≡ decided (ruling s bytes) (decode bytes)
+  too-few some h =
+      rw (lt-ltb 0 (length bytes) some, known (getD bytes 0 0) (omega arith), le-ltb (operands (decode bytes)) (length bytes) (omega (arith, width-of bytes)))
 
-    -- none of the seven
-    pub unknown : within 1 (getD bytes 0 0) 7 ≡ false → record { refusal = 1; length = 0; system = s } ≡ command s bytes
-    unfolding command
-    unknown e =
-        turned-down 0 (decode bytes) s
-        (ruled ∙ goes-on (ltb 0 (length bytes)) _ 2 (lt-ltb 0 (length bytes) some)
-        (stops (within 1 (getD bytes 0 0) 7) _ 1 e))
+  -- none of the seven
+  pub unknown : 0 < length bytes → within 1 (getD bytes 0 0) 7 ≡ false → Turned 1 ≡ decided (ruling s bytes) (decode bytes)
+  unknown some e = rw (lt-ltb 0 (length bytes) some, e)
 
-    -- a command with its operands
-    pub understood : (c : Command) → decode bytes ≡ c → within 1 (getD bytes 0 0) 7 ≡ true → operands c < length bytes → outcome (firstFailed (tests s c)) c s ≡ command s bytes
-    unfolding command
-    understood c e b h =
-        let read : refusal s bytes ≡ firstFailed (tests s (decode bytes)) =
-        ruled ∙ goes-on (ltb 0 (length bytes)) _ 2 (lt-ltb 0 (length bytes) some)
-        (goes-on (within 1 (getD bytes 0 0) 7) _ 1 b
-        (goes-on (ltb (operands (decode bytes)) (length bytes)) _ 2 (rw e (lt-ltb (operands c) (length bytes) h)) refl)) in
-        rw (read, e) refl
+  -- a command with its operands, decided by its own tests
+  pub understood : {c : Command} {d : Decided} → decode bytes ≡ c → within 1 (getD bytes 0 0) 7 ≡ true → operands c < length bytes → d ≡ decided (firstFailed (tests s c)) c → d ≡ decided (ruling s bytes) (decode bytes)
+  understood {c} e b h m = rw (lt-ltb 0 (length bytes) (omega arith), b, e, lt-ltb (operands c) (length bytes) h) m
+
+  -- the station that the operand names is the one that is seen
+  pub seen : {ready : Bool} {n tick : ℕ} {x : Station} → sound s ≡ true → Sees s ready n tick x bytes → ready ≡ true → getD bytes 1 0 ≤ n → station s (getD bytes 1 0) ≡ x
+  seen ok v e h = v .is-named (omega (arith, v .is-n, sound-of s ok (v .is-ready ∙ e) .n-high))
 
 -- none of the keys
 above-four : (b : ℕ) → 1 ≤ b → b ≢ 1 → b ≢ 2 → b ≢ 3 → b ≢ 4 → 4 < b
@@ -114,15 +106,11 @@ pub not-known : (b : ℕ) → b ≢ 1 → b ≢ 2 → b ≢ 3 → b ≢ 4 → b 
 not-known b n1 n2 n3 n4 n5 n6 n7 = go (decLt 0 b)
   where
     go : Dec (0 < b) → within 1 b 7 ≡ false
-    go (yes low) = within-above 1 b 7 (above-seven b (above-four b low n1 n2 n3 n4) n5 n6 n7)
-    go (no low) = within-below 1 b 7 (none low)
+    go (yes low) = rw (le-leb 1 b low, lt-leb b 7 (above-seven b (above-four b low n1 n2 n3 n4) n5 n6 n7))
+    go (no low) = rw (lt-leb 1 b (none low))
       where
         none : ((0 < b) → ⊥) → b < 1
         none low = omega arith
-
--- where the bytes are more than the width, the operands are there
-pub enough : (bytes : List ℕ) (width : ℕ) (c : Command) → decode bytes ≡ c → width ≡ operands (decode (getD bytes 0 0 ∷ [])) → width < length bytes → operands c < length bytes
-enough bytes width c e w h = rw (sym e, width-of bytes, sym w) h
 
 -- what each of the seven bytes says
 module _ (bytes : List ℕ) where

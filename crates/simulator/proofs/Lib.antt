@@ -1,4 +1,5 @@
--- The commands, as the code decides them.
-pub mod Answers
+-- Commands of one byte, as the code decides on them.
 pub mod Bytes
+pub mod Decisions
+pub mod Operations
 pub mod Turns

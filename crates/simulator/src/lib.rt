@@ -1,72 +1,90 @@
 // The rehearsal desk: a command, and a schedule. Each tests what it is handed. Soundness and the listing are operations of crates
 // of their own.
 ghost use mathlib.Core.Path.{_≡_};
-ghost use Rattle.election.specs.Commands.{command, said};
+ghost use Rattle.election.specs.Commands.{command, numberOf, said};
 ghost use Rattle.election.specs.Schedule.{schedule};
 ghost use Rattle.election.specs.Schedule.{said as saidSchedule};
+use crate::rules::Stop;
+use crate::rules::decision::Decision;
+use crate::rules::decision::decide;
+use crate::rules::decision::named;
 use crate::rules::go_on;
-use crate::rules::step;
-use commands::rules::fresh;
+use crate::widths::width;
 use election::Answer;
 use election::Commanded;
 use election::Ended;
 use election::Refusal;
 use election::Scheduled;
-use election::Stop;
 use election::System;
+use layout::rules::fresh;
+use layout::rules::layout_of;
+use layout::rules::system_of;
 use soundness::sound;
 
-mod arms;
 pub mod rules;
 mod widths;
+
+// A command that is turned down.
+fn refused(why: Refusal, s: System) -> Commanded
+    ensures { λ r. ⌜ said r ≡ record { refusal = numberOf why; length = 0; system = s } ⌝ }
+{
+    Commanded {
+        answer: Answer::Refused(why),
+        system: s,
+    }
+}
 
 // Does the first command of the bytes, or leaves the system as it is.
 pub fn command(s: System, bytes: &[u8]) -> Commanded
     ensures { λ r. ⌜ said r ≡ command s (now (bytes .entry)) ⌝ }
 {
     if !sound(s) {
-        return Commanded {
-            answer: Answer::Refused(Refusal::Unsound),
-            system: s,
-        };
+        return refused(Refusal::Unsound, s);
     }
-    step(s, bytes)
+    let k = named(bytes);
+    let d = decide(s.ready, s.n, s.tick, s.stations[k], bytes);
+    if let Decision::Refused(why) = d {
+        return refused(why, s);
+    }
+    let size = 1 + width(bytes[0]);
+    let mut none = [0u8; 1];
+    let r = go_on(layout_of(s), 0, &bytes[..size], false, &mut none);
+    let after = r.system;
+    Commanded {
+        answer: Answer::Done(size),
+        system: system_of(after),
+    }
 }
 
 // Does the commands of a schedule in order, from the fresh system, up to the first refusal.
 pub fn schedule(bytes: &[u8]) -> Scheduled
     ensures { λ r. ⌜ saidSchedule r ≡ schedule (now (bytes .entry)) ⌝ }
 {
-    let mut s = fresh();
     if 65536 < bytes.len() {
         return Scheduled {
             ended: Ended::Stopped {
                 at: 0,
                 refusal: Refusal::ScheduleLong,
             },
-            system: s,
+            system: system_of(fresh()),
         };
     }
-    let mut at = 0;
-    loop {
-        let r = go_on(s, at, bytes);
-        let stop = r.stop;
-        s = r.system;
-        at = r.at;
-        match stop {
-            Stop::Report => {}
-            Stop::End => {
-                return Scheduled {
-                    ended: Ended::Whole(at),
-                    system: s,
-                };
-            }
-            Stop::Refused(why) => {
-                return Scheduled {
-                    ended: Ended::Stopped { at, refusal: why },
-                    system: s,
-                };
-            }
-        }
+    let mut none = [0u8; 1];
+    let r = go_on(fresh(), 0, bytes, false, &mut none);
+    let stop = r.stop;
+    let last = r.system;
+    let system = system_of(last);
+    match stop {
+        Stop::Refused(why) => Scheduled {
+            ended: Ended::Stopped {
+                at: r.at,
+                refusal: why,
+            },
+            system,
+        },
+        _ => Scheduled {
+            ended: Ended::Whole(r.at),
+            system,
+        },
     }
 }

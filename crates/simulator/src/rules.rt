@@ -1,94 +1,116 @@
-// A command on a system that is known to be sound, for what goes through many of them. The operation `command` tests soundness,
-// and every command keeps it.
+// Going on with a schedule: the one function that owns a system while a schedule runs. The operations of this crate begin with a
+// system that is sound, and every command keeps it so.
 ghost use mathlib.Core.Path.{_≡_};
 ghost use mathlib.Core.Bool.{true};
-ghost use Prim.Native.Nat.{_+_, _*_, _≤_};
 ghost use Rattle.election.specs.Sound.{sound};
-ghost use Rattle.election.specs.Commands.{command};
-ghost use Rattle.election.specs.Commands.{said as saidCommand};
-ghost use Rattle.election.specs.Onward.{goOn, said};
-use crate::arms::crash;
-use crate::arms::link;
-use crate::arms::lose;
-use crate::arms::refused;
-use crate::arms::report;
-use crate::arms::run;
-use crate::arms::set_up;
-use crate::arms::start;
+ghost use Rattle.layout.specs.Layout.{systemOf};
+ghost use Rattle.simulator.specs.Gone.{gone, said};
+use crate::rules::decision::Decision;
+use crate::rules::decision::decide;
+use crate::rules::decision::named;
 use crate::widths::width;
-use election::Answer;
-use election::Commanded;
-use election::Onward;
 use election::Refusal;
-use election::Stop;
-use election::System;
+use layout::Layout;
+use layout::rules::place_of;
+use layout::rules::set_up;
+use layout::rules::unused;
+use listing::rules::write_listing;
+use station::rules::crash;
+use station::rules::start;
+use ticks::rules::run;
 
-// The number of two bytes, low byte first.
-fn word(low: u8, high: u8) -> u32
-    ensures { λ r. ⌜ (r ≡ low + 256 * high) × (r ≤ 65535) ⌝ }
-{
-    low as u32 + 256 * high as u32
+pub mod decision;
+
+// Where going on with a schedule stops: before a report that has no room left, at the schedule's end, or before a refused command.
+pub enum Stop {
+    Full,
+    End,
+    Refused(Refusal),
 }
 
-// Does the first command of the bytes, or leaves the system as it is.
-pub fn step(s: System, bytes: &[u8]) -> Commanded
-    requires { ⌜ sound s ≡ true ⌝ }
-    ensures { λ r. ⌜ saidCommand r ≡ command s (now (bytes .entry)) ⌝ }
-{
-    if bytes.len() == 0 {
-        return refused(Refusal::MissingOperand, s);
-    }
-    let b = bytes[0];
-    if bytes.len() <= width(b) {
-        return refused(Refusal::MissingOperand, s);
-    }
-    match b {
-        1 => set_up(bytes[1], bytes[2], s),
-        2 => start(bytes[1], s),
-        3 => crash(bytes[1], s),
-        4 => link(bytes[1], bytes[2], bytes[3], s),
-        5 => run(word(bytes[1], bytes[2]), s),
-        6 => lose(bytes[1], bytes[2], s),
-        7 => report(s),
-        _ => refused(Refusal::UnknownCommand, s),
-    }
+// .. with the offset, how many bytes of listings were written, and the system there.
+pub struct Onward {
+    pub stop: Stop,
+    pub at: usize,
+    pub size: usize,
+    pub system: Layout,
 }
 
-// Goes on with a schedule, from a system and an offset, to just after the next accepted report, the end or the refusal.
-pub fn go_on(s: System, at: usize, bytes: &[u8]) -> Onward
-    requires { ⌜ sound s ≡ true ⌝ }
-    ensures { λ r. ⌜ said r ≡ goOn s at (now (bytes .entry)) ⌝ }
+// A period as ticks.
+fn ticks_of(period: u8) -> u32
+    ensures { λ r. ⌜ r ≡ period ⌝ }
 {
-    let mut state = s;
-    let mut place = at;
-    while place < bytes.len() {
-        // an accepted report changes nothing
-        if (bytes[place] == 7) & state.ready {
-            return Onward {
-                stop: Stop::Report,
-                at: place + 1,
-                system: state,
-            };
-        }
-        let c = step(state, &bytes[place..]);
-        let answer = c.answer;
-        match answer {
-            Answer::Done(size) => {
-                state = c.system;
-                place += size;
-            }
-            Answer::Refused(why) => {
+    period as u32
+}
+
+// Goes on with a schedule from a system and an offset, each command in place. Asked to list, it writes the listing of each accepted report
+// into the buffer, and stops where there is no room for another.
+pub fn go_on(mut s: Layout, from: usize, bytes: &[u8], list: bool, buffer: &mut [u8]) -> Onward
+    requires { ⌜ sound (systemOf s) ≡ true ⌝ }
+    ensures { λ r. ⌜ said r (now (buffer .exit)) ≡ gone list (systemOf s) from (now (bytes .entry)) (now (buffer .entry)) ⌝ }
+{
+    let empty = unused();
+    let mut at = from;
+    let mut size = 0usize;
+    while at < bytes.len() {
+        let k = named(&bytes[at..]);
+        let d = decide(s.ready, s.n, s.tick, s.stations[k], &bytes[at..]);
+        match d {
+            Decision::Refused(why) => {
                 return Onward {
                     stop: Stop::Refused(why),
-                    at: place,
-                    system: state,
+                    at,
+                    size,
+                    system: s,
                 };
             }
+            Decision::SetUp { n, period } => {
+                s = set_up(n, ticks_of(period));
+            }
+            Decision::Start(p) => {
+                let place = (p - 1) as usize;
+                s.stations[place] = start(p, s.n, s.period, s.tick, s.stations[place]);
+            }
+            Decision::Crash(p) => {
+                let place = (p - 1) as usize;
+                s.stations[place] = crash(s.stations[place]);
+            }
+            Decision::Link { from, to, delay } => {
+                let link = place_of(from, to);
+                s.delays[link] = delay;
+            }
+            Decision::Run(t) => {
+                s = run(t, s);
+            }
+            Decision::Lose { from, to } => {
+                let link = place_of(from, to);
+                for i in 0..4 {
+                    s.messages[4 * link + i] = empty;
+                }
+                s.used[link] = 0;
+            }
+            Decision::Report => {
+                if list {
+                    if buffer.len() - size < 2700 {
+                        return Onward {
+                            stop: Stop::Full,
+                            at,
+                            size,
+                            system: s,
+                        };
+                    }
+                    let stations = s.stations;
+                    let sent = s.sent;
+                    size += write_listing(s.n, s.tick, stations, sent, &mut buffer[size..]);
+                }
+            }
         }
+        at += 1 + width(bytes[at]);
     }
     Onward {
         stop: Stop::End,
-        at: place,
-        system: state,
+        at,
+        size,
+        system: s,
     }
 }

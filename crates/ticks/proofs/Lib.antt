@@ -1,8 +1,11 @@
 -- A tick, as the code goes through it.
 pub mod After
 pub mod Hearing
+pub mod InPlace
 pub mod Quiet
 pub mod Ready
 pub mod Run
+pub mod Sent
+pub mod Taken
 pub mod Turns
 pub mod Whole

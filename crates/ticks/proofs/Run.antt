@@ -13,22 +13,21 @@ use Rattle.election.proofs.Places.{tick-tick, tick-n, tick-ready}
 use Rattle.election.proofs.Soundness.{of-sound, sound-of}
 use Rattle.election.proofs.TickSound.{tick-sound, ticks-sound, ticks-ready}
 use Rattle.ticks.specs.Sending.{Ticking}
-use Rattle.ticks.proofs.Whole.{Full}
 
 -- a run of t ticks from s has come to r: what is left of it leads to the same system
 pub record Going (t : ℕ) (s r : System) : Type 0 where
   pub is-sound : sound r ≡ true
   pub is-ready : r .ready ≡ true
-  pub full : Full r
+  pub held : Held r
   pub size : r .n ≡ s .n
   pub reached : r .tick ≤ s .tick + t
   pub room : s .tick + t ≤ lastTick
   pub rest : ticks (s .tick + t - r .tick) r ≡ ticks t s
 
-pub going-first : (t : ℕ) (s : System) → sound s ≡ true → s .ready ≡ true → Full s → s .tick + t ≤ lastTick → Going t s s
-going-first t s e u full h =
+pub going-first : (t : ℕ) (s : System) → sound s ≡ true → s .ready ≡ true → Held s → s .tick + t ≤ lastTick → Going t s s
+going-first t s e u held h =
     let z : s .tick + t - s .tick ≡ t = omega arith in
-    record { is-sound = e; is-ready = u; full = full; size = refl; reached = omega arith; room = h; rest = ap (λ k. ticks k s) z }
+    record { is-sound = e; is-ready = u; held = held; size = refl; reached = omega arith; room = h; rest = ap (λ k. ticks k s) z }
 
 pub going-done : (t : ℕ) (s r : System) → Going t s r → s .tick + t ≤ r .tick → r ≡ ticks t s
 unfolding ticks
@@ -47,20 +46,17 @@ module _ (t : ℕ) (s r : System) (g : Going t s r) (h : r .tick < s .tick + t) 
     skipped : ℕ
     skipped = until - (r .tick + 1)
 
-    held : Held (tick r)
-    held = tick-held r (g .is-sound) (g .is-ready) (omega (arith, g .room))
+    after : Held (tick r)
+    after = tick-held r (g .is-sound) (g .is-ready) (omega (arith, g .room))
 
     at-until : atTick until (tick r) ≡ ticks skipped (tick r)
     unfolding skipped
     at-until =
         let z : r .tick + 1 + (until - (r .tick + 1)) ≡ until = omega arith in
-        sym (idle-ticks skipped (tick r) held (λ now a b. calm now (omega (arith, tick-tick r)) (omega (arith, tick-tick r))) ∙ ap (λ k. atTick k (tick r)) (ap (λ k. k + skipped) (tick-tick r) ∙ z))
+        sym (idle-ticks skipped (tick r) after (λ now a b. calm now (omega (arith, tick-tick r)) (omega (arith, tick-tick r))) ∙ ap (λ k. atTick k (tick r)) (ap (λ k. k + skipped) (tick-tick r) ∙ z))
 
     now-ready : ticks skipped (tick r) .ready ≡ true
     now-ready = ticks-ready skipped (tick r) ∙ tick-ready r ∙ g .is-ready
-
-    pub going-held : Held (atTick until (tick r))
-    going-held = held-at until (tick r) held
 
     pub going-on : Going t s (atTick until (tick r))
     unfolding ticks atTick skipped
@@ -68,7 +64,7 @@ module _ (t : ℕ) (s r : System) (g : Going t s r) (h : r .tick < s .tick + t) 
         record {
           is-sound = rw at-until (of-sound (ticks skipped (tick r)) (ticks-sound skipped (tick r) (omega (arith, tick-tick r, g .room)) (tick-sound r (sound-of r (g .is-sound) (g .is-ready)) (omega (arith, g .room)))) now-ready);
           is-ready = tick-ready r ∙ g .is-ready;
-          full = record { stations = held .stations; sent = held .sent; links = held .links };
+          held = held-at until (tick r) after;
           size = tick-n r ∙ g .size;
           reached = high;
           room = g .room;

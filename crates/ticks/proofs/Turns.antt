@@ -7,21 +7,16 @@ use native.Mathlib.Numerals.{add-one}
 use native.Mathlib.Omega.{arith}
 use lib.Dec.{eqb}
 use lib.ListN.{length, getD, take, set, replicate, length-append}
-use borrow.Author.Tests.{eq-eqb, ne-eqb, not-true, not-false}
+use borrow.Author.Tests.{eq-eqb, ne-eqb}
 use Rattle.lists.specs.Entries.{over}
 use Rattle.lists.specs.Filter.{whereTo}
-use Rattle.lists.proofs.Bools.{cond-yes, cond-no}
 use Rattle.lists.proofs.Entries.{over-snoc}
-use Rattle.lists.proofs.Filter.{Kept}
 use lib.Seq.{take-suc}
 use Rattle.station.specs.Rules.{heard}
 use Rattle.station.specs.declared.Station.{Station}
-use Rattle.station.proofs.Unchanged.{heard-timeouts}
 use Rattle.election.specs.System.{noMessage, unused, messages, holding}
 use Rattle.election.specs.Tick.{heardLink, later}
-use Rattle.election.specs.declared.Link.{Link}
 use Rattle.election.specs.declared.Message.{Message}
-use Rattle.ticks.specs.Sending.{hears}
 
 -- one message more is heard
 heardLink-snoc : (me q now : ℕ) (ms : List Message) (m : Message) (x : Station) → heardLink me q now (ms ++ (m ∷ [])) x ≡ cond (eqb (m .due) now) (heard me q (m .counts) now (heardLink me q now ms x)) (heardLink me q now ms x)
@@ -34,28 +29,6 @@ pub heardLink-turn : (me q now : ℕ) (ms : List Message) (k : ℕ) (x r r′ : 
 heardLink-turn me q now ms k x r r′ h e g =
     g ∙ ap (λ (z : Station). cond (eqb (getD ms k noMessage .due) now) (heard me q (getD ms k noMessage .counts) now z) z) e
     ∙ sym (heardLink-snoc me q now (take k ms) (getD ms k noMessage) x) ∙ ap (λ l. heardLink me q now l x) (sym (take-suc ms k noMessage h) ∙ ap (λ n. take n ms) (sym (add-one k)))
-
-pub heardLink-none : (me q now : ℕ) (ms : List Message) (x : Station) → x ≡ heardLink me q now (take 0 ms) x
-unfolding heardLink
-heardLink-none me q now ms x = refl
-
--- hearing leaves the timeouts
-pub heard-or-not : (me q now : ℕ) (m : Message) (x r : Station) → r ≡ cond (eqb (m .due) now) (heard me q (m .counts) now x) x → r .timeouts ≡ x .timeouts
-heard-or-not me q now m x r e = ap (λ (z : Station). z .timeouts) e ∙ go (eqb (m .due) now)
-  where
-    go : (b : Bool) → cond b (heard me q (m .counts) now x) x .timeouts ≡ x .timeouts
-    go true = heard-timeouts me q (m .counts) now x
-    go false = refl
-
--- a station that is down hears nothing
-module _ (me q now : ℕ) (ms : List Message) (x : Station) where
-  pub hears-down : not (x .up) ≡ true → x ≡ hears me q now ms x
-  unfolding hears
-  hears-down d = sym (cond-no {b = x .up} _ _ (not-true (x .up) d))
-
-  pub hears-up : (r : Station) → not (x .up) ≡ false → r ≡ heardLink me q now ms x → r ≡ hears me q now ms x
-  unfolding hears
-  hears-up r u e = e ∙ sym (cond-yes {b = x .up} _ _ (not-false (x .up) u))
 
 -- one message more is kept, or left out
 later-snoc : (now : ℕ) (ms : List Message) (m : Message) → later now (ms ++ (m ∷ [])) ≡ later now ms ++ cond (eqb (m .due) now) [] (m ∷ [])
@@ -77,7 +50,7 @@ staying now ms i = not (eqb (getD ms i noMessage .due) now)
 abbrev pub entryOf : List Message → ℕ → Message
 entryOf ms i = getD ms i noMessage
 
-later-where : (now : ℕ) (ms : List Message) (k : ℕ) → k ≤ length ms → later now (take k ms) ≡ whereTo k (staying now ms) (entryOf ms)
+pub later-where : (now : ℕ) (ms : List Message) (k : ℕ) → k ≤ length ms → later now (take k ms) ≡ whereTo k (staying now ms) (entryOf ms)
 unfolding later whereTo
 later-where now ms zero h = refl
 later-where now ms (suc k) h =
@@ -95,21 +68,10 @@ stays now m ne = rw (ne-eqb (m .due) now ne)
 pub goes : (now : ℕ) (m : Message) → m .due ≡ now → not (eqb (m .due) now) ≡ false
 goes now m e = rw (eq-eqb (m .due) now e)
 
--- where the loop ends, the link holds what is not due now
-pub kept-holds : (now : ℕ) (l : Link) (to : ℕ) (out : List Message) → l .used ≤ length (l .messages)
-    → Kept (l .used) (staying now (l .messages)) (entryOf (l .messages)) (replicate 4 unused) to out → record { used = to; messages = out } ≡ holding (later now (messages l))
-unfolding messages holding
-kept-holds now l to out h k = rw (k .count, k .list, later-where now (l .messages) (l .used) h)
-
 -- a link that holds up to three messages takes one more
-module _ (ms : List Message) (m : Message) (room : length (ms ++ (m ∷ [])) ≤ 4) where
-  pub holding-room : holding ms .used < 4
-  unfolding holding
-  holding-room = omega (arith, length-append ms (m ∷ []))
-
-  pub holding-more : record { used = holding ms .used + 1; messages = set (holding ms .messages) (holding ms .used) m } ≡ holding (ms ++ (m ∷ []))
-  unfolding holding
-  holding-more =
-      let e : set (over ms (replicate 4 unused)) (length ms) m ≡ over (ms ++ (m ∷ [])) (replicate 4 unused) =
-      over-snoc ms (replicate 4 unused) (over ms (replicate 4 unused)) (length ms) m refl (omega (arith, length-append ms (m ∷ []))) refl in
-      rw (e, length-append)
+pub holding-more : (ms : List Message) (m : Message) → length (ms ++ (m ∷ [])) ≤ 4 → record { used = holding ms .used + 1; messages = set (holding ms .messages) (holding ms .used) m } ≡ holding (ms ++ (m ∷ []))
+unfolding holding
+holding-more ms m room =
+    let e : set (over ms (replicate 4 unused)) (length ms) m ≡ over (ms ++ (m ∷ [])) (replicate 4 unused) =
+    over-snoc ms (replicate 4 unused) (over ms (replicate 4 unused)) (length ms) m refl (omega (arith, length-append ms (m ∷ []))) refl in
+    rw (e, length-append)

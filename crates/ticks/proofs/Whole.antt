@@ -1,12 +1,12 @@
 -- (a), (b) and (c) as the code goes through them are a tick.
 use mathlib.Core.Path.{_≡_, refl, sym, ap, subst, _∙_}
-use mathlib.Core.List.{_++_}
+use mathlib.Core.List.{List, _++_}
 use mathlib.Core.Bool.{Bool, true, false, cond, _&&_}
 use Prim.Native.Nat.{ℕ, _+_, _-_, _*_, _/_, _<_, _≤_}
 use native.Mathlib.Decide.{decLt}
 use native.Mathlib.Omega.{arith}
 use lib.Dec.{ltb}
-use lib.ListN.{length, getD}
+use lib.ListN.{length, getD, length-append}
 use borrow.Author.Tests.{lt-ltb, le-ltb}
 use Rattle.lists.proofs.Entries.{upTo-same, firsts-get, firsts-beyond, firsts-cond, firsts-idle, length-firsts}
 use Rattle.lists.proofs.Test.{all-of}
@@ -15,25 +15,22 @@ use Rattle.station.specs.declared.Station.{Station}
 use Rattle.election.specs.Idle.{quietStation, quietLink, quietAt, atTick, Held}
 use Rattle.election.specs.System.{noStation, noLink, station, place, from, to, messages, holding, isLink}
 use Rattle.election.specs.Tick.{slottedNow, settled, sending, later, sent, underwayAfter, tick}
+use Rattle.election.specs.declared.Link.{Link}
 use Rattle.election.specs.declared.System.{System}
-use Rattle.election.proofs.Places.{seat-in, tick-n}
+use Rattle.election.proofs.Places.{tick-n, messages-holding}
 use Rattle.election.proofs.Soundness.{link-of, place-of}
 use Rattle.election.proofs.TickSound.{after-few}
+use Rattle.layout.proofs.Stores.{withLinks}
 use Rattle.ticks.specs.Sending.{Ticking, sentOver, sendsNow}
-use Rattle.ticks.proofs.After.{no-sender, unlinked, sendsAt, stationAfter, sentAfter, newLink, linkAfter, sentTo, Mid, Part}
+use Rattle.ticks.proofs.After.{no-sender, unlinked, linked, sendsAt, stationAfter, sentAfter, newLink, linkAfter, sentTo, Mid, Part, part-none}
 use Rattle.ticks.proofs.Hearing.{settledTo}
-use Rattle.ticks.proofs.Ready.{is, used-at, sent-at, unused-self}
+use Rattle.ticks.proofs.Ready.{is, sent-at}
+use Rattle.ticks.proofs.Taken.{linkKept, kept-yes, kept-no, Taken, taken-links, taken-calm}
 
--- the tables are full
-pub record Full (s : System) : Type 0 where
-  pub stations : length (s .stations) ≡ 8
-  pub sent : length (s .sent) ≡ 8
-  pub links : length (s .links) ≡ 64
-
-module _ (s : System) (ticking : Ticking s) (full : Full s) where
-  -- the system after (a) and (b)
+-- the system after (a) and (b), its links without what was due now
+module _ (s : System) (ticking : Ticking s) (held : Held s) (ls : List Link) (long : length ls ≡ 64) (kept : (k : ℕ) → k < 64 → getD ls k noLink ≡ linkKept (s .n) (s .tick + 1) s k) where
   mid : System
-  mid = settledTo s (s .n)
+  mid = withLinks ls (settledTo s (s .n))
 
   now : ℕ
   now = s .tick + 1
@@ -54,11 +51,37 @@ module _ (s : System) (ticking : Ticking s) (full : Full s) where
 
   mid-long : length (mid .stations) ≡ 8
   unfolding settledTo mid
-  mid-long = length-firsts (s .n) (λ k. settled s (k + 1)) (s .stations) (omega (arith, full .stations, is s ticking .n-high)) ∙ full .stations
+  mid-long = length-firsts (s .n) (λ k. settled s (k + 1)) (s .stations) (omega (arith, held .stations, is s ticking .n-high)) ∙ held .stations
 
-  mid-ready : (first : Bool) → (first ≡ false → Held s) → Mid first (s .n) (s .tick + 1) (settledTo s (s .n))
-  unfolding settledTo mid now sent
-  mid-ready first held =
+  -- what a link holds is what was not due
+  module _ (k : ℕ) (h : k < 64) (i : isLink (s .n) (from k) (to k) ≡ true) where
+    link-few : length (underwayAfter s (from k) (to k)) ≤ 4
+    link-few = let (hp, hq, ne) = link-of (s .n) (from k) (to k) (omega arith) (omega arith) i in after-few s (is s ticking) (ticking .room) (from k) (to k) hp hq ne
+
+    kept-few : length (later (s .tick + 1) (messages (getD (s .links) k noLink))) ≤ 4
+    kept-few =
+        subst (λ x. length (later (s .tick + 1) (messages (getD (s .links) x noLink))) ≤ 4) (place-of k h)
+        (omega (arith, link-few, length-append (later (s .tick + 1) (messages (getD (s .links) (place (from k) (to k)) noLink))) (sent s (from k) (to k))))
+
+    kept-is : getD ls k noLink ≡ holding (later (s .tick + 1) (messages (getD (s .links) k noLink)))
+    kept-is = kept k h ∙ kept-yes (s .n) (s .tick + 1) s k i
+
+    kept-messages : messages (getD ls k noLink) ≡ later (s .tick + 1) (messages (getD (s .links) k noLink))
+    kept-messages = ap messages kept-is ∙ messages-holding (later (s .tick + 1) (messages (getD (s .links) k noLink))) kept-few
+
+    after-is : messages (getD ls k noLink) ++ sentOver (s .tick + 1) (sendsAt (s .tick + 1) mid (k / 8)) (getD (s .delays) k 0) (getD (mid .stations) (k / 8) noStation .recovered) ≡ underwayAfter s (from k) (to k)
+    unfolding sent now
+    after-is =
+        let (hp, hq, ne) = link-of (s .n) (from k) (to k) (omega arith) (omega arith) i in
+        let l : k / 8 < s .n = omega (arith, hp .high) in
+        ap (λ ms. ms ++ sentOver (s .tick + 1) (sendsAt (s .tick + 1) mid (k / 8)) (getD (s .delays) k 0) (getD (mid .stations) (k / 8) noStation .recovered)) kept-messages
+        ∙ ap (λ b. later (s .tick + 1) (messages (getD (s .links) k noLink)) ++ sentOver (s .tick + 1) b (getD (s .delays) k 0) (getD (mid .stations) (k / 8) noStation .recovered)) (sends-is (k / 8) l)
+        ∙ ap (λ (x : Station). later (s .tick + 1) (messages (getD (s .links) k noLink)) ++ sentOver (s .tick + 1) (sending s (from k)) (getD (s .delays) k 0) (x .recovered)) (mid-at (k / 8) l)
+        ∙ ap (λ x. later (s .tick + 1) (messages (getD (s .links) x noLink)) ++ sentOver (s .tick + 1) (sending s (from k)) (getD (s .delays) x 0) (settled s (from k) .recovered)) (sym (place-of k h))
+
+  mid-ready : Mid (s .n) (s .tick + 1) (withLinks ls (settledTo s (s .n)))
+  unfolding settledTo mid
+  mid-ready =
       record {
         size = refl;
         n-low = is s ticking .n-low;
@@ -66,25 +89,20 @@ module _ (s : System) (ticking : Ticking s) (full : Full s) where
         early = omega (arith, ticking .room);
         period-high = is s ticking .period-high;
         stations-long = mid-long;
-        sent-long = full .sent;
-        links-long = full .links;
+        sent-long = held .sent;
+        links-long = long;
         sent-low = λ p h. sent-at s ticking p h .2;
-        few-used = λ p q hp hq. used-at s ticking q p hq hp;
-        room = λ p q hp hq ne. fits p q hp hq ne;
-        empty = λ k h e. unused-self (getD (s .delays) k 0) (getD (s .links) k noLink) (is s ticking .no-link k h e);
-        held = λ f k h i. held f .held k h i;
+        room = λ p q hp hq ne.
+            let h : 8 * p + q < 64 = omega (arith, is s ticking .n-high) in
+            let z : (8 * p + q) / 8 ≡ p = omega (arith, is s ticking .n-high) in
+            let i : isLink (s .n) (from (8 * p + q)) (to (8 * p + q)) ≡ true = linked (s .n) p q (is s ticking .n-high) hp hq ne in
+            subst (λ j. length (messages (getD ls (8 * p + q) noLink) ++ sentOver (s .tick + 1) (sendsAt (s .tick + 1) mid j) (getD (s .delays) (8 * p + q) 0) (getD (mid .stations) j noStation .recovered)) ≤ 4) z
+            (subst (λ ms. length ms ≤ 4) (sym (after-is (8 * p + q) h i)) (link-few (8 * p + q) h i));
+        held = λ k h i. subst (λ l. holding (messages l) ≡ l) (sym (kept-is k h i)) (ap holding (messages-holding (later (s .tick + 1) (messages (getD (s .links) k noLink))) (kept-few k h i)));
       }
-    where
-      fits : (p q : ℕ) → p < s .n → q < s .n → (p ≡ q → ⊥) → length (later now (messages (getD (s .links) (8 * p + q) noLink)) ++ sentOver now (sendsAt now mid p) (getD (s .delays) (8 * p + q) 0) (getD (mid .stations) p noStation .recovered)) ≤ 4
-      fits p q hp hq ne =
-          let a : p + 1 - 1 ≡ p = omega arith in
-          let b : q + 1 - 1 ≡ q = omega arith in
-          subst (λ x. length (later now (messages (getD (s .links) (8 * p + q) noLink)) ++ sentOver now (sendsAt now mid p) (getD (s .delays) (8 * p + q) 0) (x .recovered)) ≤ 4) (sym (mid-at p hp))
-          (subst (λ b. length (later now (messages (getD (s .links) (8 * p + q) noLink)) ++ sentOver now b (getD (s .delays) (8 * p + q) 0) (settled s (p + 1) .recovered)) ≤ 4) (sym (sends-is p hp))
-          (rw (a, b) at (after-few s (is s ticking) (ticking .room) (p + 1) (q + 1) (seat-in (s .n) p hp) (seat-in (s .n) q hq) (λ e. ne (let f : p ≡ q = omega arith in f)))))
 
   done : System
-  done = sentTo (s .n) now mid (s .n) (8 * s .n)
+  done = sentTo (s .n) now mid (s .n) (s .n) (8 * s .n)
 
   stations-done : done .stations ≡ tick s .stations
   unfolding tick sentTo settledTo stationAfter done mid now
@@ -99,7 +117,7 @@ module _ (s : System) (ticking : Ticking s) (full : Full s) where
   sent-done : done .sent ≡ tick s .sent
   unfolding tick sentTo settledTo sentAfter done mid now
   sent-done =
-      firsts-cond (s .n) 8 (sentAfter now mid) (s .sent) 0 (full .sent) (is s ticking .n-high)
+      firsts-cond (s .n) 8 (sentAfter now mid) (s .sent) 0 (held .sent) (is s ticking .n-high)
       ∙ upTo-same 8 _ _ (λ k h. go k (decLt k (s .n)))
     where
       go : (k : ℕ) → Dec (k < s .n) → cond (ltb k (s .n)) (sentAfter now mid k) (getD (s .sent) k 0) ≡ cond (ltb k (s .n) && sending s (k + 1)) (getD (s .sent) k 0 + (s .n - 1)) (getD (s .sent) k 0)
@@ -107,26 +125,20 @@ module _ (s : System) (ticking : Ticking s) (full : Full s) where
       go k (no l) = rw (le-ltb k (s .n) (omega arith)) refl
 
   links-done : done .links ≡ tick s .links
-  unfolding tick sentTo settledTo linkAfter sent done mid now
+  unfolding tick sentTo settledTo linkAfter done mid now
   links-done =
-      firsts-idle (8 * s .n) 64 (linkAfter (s .n) now mid) (s .links) noLink (omega (arith, is s ticking .n-high)) (omega (arith, full .links)) (λ k a b. past k (omega arith))
-      ∙ firsts-cond 64 64 (linkAfter (s .n) now mid) (s .links) noLink (full .links) (omega arith)
-      ∙ upTo-same 64 _ _ (λ k h. ap (λ b. cond b (linkAfter (s .n) now mid k) (getD (s .links) k noLink)) (lt-ltb k 64 h) ∙ go k h (isLink (s .n) (from k) (to k)) refl)
+      firsts-idle (8 * s .n) 64 (linkAfter (s .n) now mid) ls noLink (omega (arith, is s ticking .n-high)) (omega (arith, long)) (λ k a b. past k (omega arith))
+      ∙ firsts-cond 64 64 (linkAfter (s .n) now mid) ls noLink long (omega arith)
+      ∙ upTo-same 64 _ _ (λ k h. ap (λ b. cond b (linkAfter (s .n) now mid k) (getD ls k noLink)) (lt-ltb k 64 h) ∙ go k h (isLink (s .n) (from k) (to k)) refl)
     where
-      past : (k : ℕ) → s .n ≤ k / 8 → linkAfter (s .n) now mid k ≡ getD (s .links) k noLink
+      past : (k : ℕ) → s .n ≤ k / 8 → linkAfter (s .n) now mid k ≡ getD ls k noLink
       past k h = unlinked (s .n) now mid k (no-sender (s .n) k h)
 
       go : (k : ℕ) → k < 64 → (b : Bool) → isLink (s .n) (from k) (to k) ≡ b → linkAfter (s .n) now mid k ≡ cond b (holding (underwayAfter s (from k) (to k))) (getD (s .links) k noLink)
-      go k h true e =
-          let (hp, hq, ne) = link-of (s .n) (from k) (to k) (omega arith) (omega arith) e in
-          let l : k / 8 < s .n = omega (arith, hp .high) in
-          ap (λ b. cond b (newLink now mid (k / 8) k) (getD (s .links) k noLink)) e
-          ∙ ap (λ b. holding (later now (messages (getD (s .links) k noLink)) ++ sentOver now b (getD (s .delays) k 0) (getD (mid .stations) (k / 8) noStation .recovered))) (sends-is (k / 8) l)
-          ∙ ap (λ (x : Station). holding (later now (messages (getD (s .links) k noLink)) ++ sentOver now (sending s (from k)) (getD (s .delays) k 0) (x .recovered))) (mid-at (k / 8) l)
-          ∙ ap (λ x. holding (later now (messages (getD (s .links) x noLink)) ++ sentOver now (sending s (from k)) (getD (s .delays) x 0) (settled s (from k) .recovered))) (sym (place-of k h))
-      go k h false e = ap (λ b. cond b (newLink now mid (k / 8) k) (getD (s .links) k noLink)) e
+      go k h true i = ap (λ b. cond b (newLink now mid (k / 8) k) (getD ls k noLink)) i ∙ ap holding (after-is k h i)
+      go k h false i = ap (λ b. cond b (newLink now mid (k / 8) k) (getD ls k noLink)) i ∙ kept k h ∙ kept-no (s .n) (s .tick + 1) s k i
 
-  whole-tick : (r : System) → r ≡ sentTo (s .n) (s .tick + 1) (settledTo s (s .n)) (s .n) (8 * s .n) → (until : ℕ) → atTick until r ≡ atTick until (tick s)
+  whole-tick : (r : System) → r ≡ sentTo (s .n) (s .tick + 1) (withLinks ls (settledTo s (s .n))) (s .n) (s .n) (8 * s .n) → (until : ℕ) → atTick until r ≡ atTick until (tick s)
   unfolding atTick tick sentTo settledTo done mid now
   whole-tick r e until =
       ap (atTick until) e
@@ -142,7 +154,7 @@ module _ (s : System) (ticking : Ticking s) (full : Full s) where
       })
 
   -- and nothing is due up to where the parts are calm
-  module _ (first : Bool) (r : System) (until : ℕ) (a : Part first (s .n) (s .tick + 1) (settledTo s (s .n)) until r (s .n) (8 * s .n)) (t : ℕ) (h : s .tick + 1 < t) (i : t ≤ until) where
+  module _ (r : System) (until : ℕ) (a : Part (s .n) (s .tick + 1) (withLinks ls (settledTo s (s .n))) until r (s .n) (s .n) (8 * s .n)) (t : ℕ) (h : s .tick + 1 < t) (i : t ≤ until) where
     station-calm : (k : ℕ) → k < s .n → quietStation t (station (tick s) (k + 1)) ≡ true
     unfolding sentTo done mid now
     station-calm k l =
@@ -167,21 +179,30 @@ module _ (s : System) (ticking : Ticking s) (full : Full s) where
         (rw (all-of (s .n) (λ k. quietStation t (station (tick s) (k + 1))) station-calm, all-of (s .n) (λ j. allTo (s .n) (λ k. quietLink t (getD (tick s .links) (place (j + 1) (k + 1)) noLink))) (λ j lj. all-of (s .n) (λ k. quietLink t (getD (tick s .links) (place (j + 1) (k + 1)) noLink)) (λ k lk. link-calm j k lj lk))))
 
 -- the same as the code counts
-module _ (s : System) (ticking : Ticking s) (full : Full s) (first : Bool) (n p : ℕ) (m : System) (z : s .n ≡ n) (zp : p ≡ n) (e : m ≡ settledTo s p) where
-  mid-is : settledTo s (s .n) ≡ m
-  mid-is = ap (settledTo s) (z ∙ sym zp) ∙ sym e
+module _ (s : System) (n p until₀ : ℕ) (m : System) (long : length (m .links) ≡ 64) (taken : Taken n (s .tick + 1) s until₀ (m .links) (8 * p)) (zp : p ≡ n) (e : withLinks (s .links) m ≡ settledTo s p) where
+  n-high : n ≤ 8
+  n-high = omega (arith, taken .size, is s (taken .ticking) .n-high)
 
-  pub mid-given : (first ≡ false → Held s) → Mid first n (s .tick + 1) m
-  mid-given held = subst (λ k. Mid first k (s .tick + 1) m) z (subst (Mid first (s .n) (s .tick + 1)) mid-is (mid-ready s ticking full first held))
+  mid-is : withLinks (m .links) (settledTo s (s .n)) ≡ m
+  mid-is = ap (λ k. withLinks (m .links) (settledTo s k)) (taken .size ∙ sym zp) ∙ ap (withLinks (m .links)) (sym e)
 
-  module _ (r : System) (until q : ℕ) (zq : q ≡ n) (a : Part first n (s .tick + 1) m until r q (8 * q)) where
-    all-parts : Part first (s .n) (s .tick + 1) (settledTo s (s .n)) until r (s .n) (8 * s .n)
+  links-kept : (k : ℕ) → k < 64 → getD (m .links) k noLink ≡ linkKept (s .n) (s .tick + 1) s k
+  links-kept = subst (λ n. (k : ℕ) → k < 64 → getD (m .links) k noLink ≡ linkKept n (s .tick + 1) s k) (sym (taken .size)) (taken-links n (s .tick + 1) s until₀ (m .links) (8 * p) taken n-high (ap (λ k. 8 * k) zp))
+
+  pub part-first : Part n (s .tick + 1) m until₀ m 0 0 0
+  part-first =
+      part-none n (s .tick + 1) m until₀
+      (subst (λ k. Mid k (s .tick + 1) m) (taken .size) (subst (Mid (s .n) (s .tick + 1)) mid-is (mid-ready s (taken .ticking) (taken .held) (m .links) long links-kept)))
+      (taken-calm n (s .tick + 1) s until₀ (m .links) (8 * p) taken n-high (ap (λ k. 8 * k) zp))
+
+  module _ (r : System) (until q : ℕ) (zq : q ≡ n) (a : Part n (s .tick + 1) m until r q q (8 * q)) where
+    all-parts : Part (s .n) (s .tick + 1) (withLinks (m .links) (settledTo s (s .n))) until r (s .n) (s .n) (8 * s .n)
     all-parts =
-        subst (λ m. Part first (s .n) (s .tick + 1) m until r (s .n) (8 * s .n)) (sym mid-is)
-        (subst (λ k. Part first k (s .tick + 1) m until r k (8 * k)) (sym z) (subst (λ k. Part first n (s .tick + 1) m until r k (8 * k)) zq a))
+        subst (λ m. Part (s .n) (s .tick + 1) m until r (s .n) (s .n) (8 * s .n)) (sym mid-is)
+        (subst (λ k. Part k (s .tick + 1) m until r k k (8 * k)) (sym (taken .size)) (subst (λ k. Part n (s .tick + 1) m until r k k (8 * k)) zq a))
 
     pub run-tick : atTick until r ≡ atTick until (tick s)
-    run-tick = whole-tick s ticking full r (all-parts .same) until
+    run-tick = whole-tick s (taken .ticking) (taken .held) (m .links) long links-kept r (all-parts .same) until
 
     pub run-calm : (t : ℕ) → s .tick + 1 < t → t ≤ until → quietAt t (tick s) ≡ true
-    run-calm t h i = whole-calm s ticking full first r until all-parts t h i
+    run-calm t h i = whole-calm s (taken .ticking) (taken .held) (m .links) long links-kept r until all-parts t h i

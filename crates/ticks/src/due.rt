@@ -2,12 +2,11 @@
 ghost use mathlib.Core.Path.{_≡_};
 ghost use mathlib.Core.Bool.{true};
 ghost use Prim.Native.Nat.{ℕ, _<_, _≤_};
-ghost use Rattle.election.specs.Idle.{quietStation, quietLink};
-use election::Link;
+ghost use Rattle.election.specs.Idle.{quietStation};
 use station::Station;
 
 // A tick up to end, and short of due if due is after now.
-fn short_of(now: u32, due: u32, end: u32) -> u32
+pub(crate) fn short_of(now: u32, due: u32, end: u32) -> u32
     requires { ⌜ now ≤ end ⌝ }
     ensures { λ r. ⌜ (now ≤ r) × (r ≤ end) × (now < due → r < due) ⌝ }
 {
@@ -26,18 +25,4 @@ pub(crate) fn quiet_station(now: u32, x: Station, end: u32) -> u32
     ensures { λ r. ⌜ (now ≤ r) × (r ≤ end) × ((t : ℕ) → now < t → t ≤ r → quietStation t x ≡ true) ⌝ }
 {
     short_of(now, x.slot, short_of(now, x.timer, end))
-}
-
-// A tick up to end, with no message of the link due after now and up to it.
-pub(crate) fn quiet_link(now: u32, l: Link, end: u32) -> u32
-    requires { ⌜ (now ≤ end) × (l .used ≤ 4) ⌝ }
-    ensures { λ r. ⌜ (now ≤ r) × (r ≤ end) × ((t : ℕ) → now < t → t ≤ r → quietLink t l ≡ true) ⌝ }
-{
-    let ms = l.messages;
-    let used = l.used as usize;
-    let mut r = end;
-    for i in 0..used {
-        r = short_of(now, ms[i].due, r);
-    }
-    r
 }

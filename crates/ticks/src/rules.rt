@@ -1,72 +1,107 @@
-// A tick, and runs of a sound system. The simulator's operations test soundness, and every command keeps
-// it, so what is required here can be met.
+// Runs of a sound system, in place: messages are heard, kept and sent where they stand. The simulator's operations test soundness, and
+// every command keeps it, so what is required here can be met.
 ghost use mathlib.Core.Path.{_≡_};
 ghost use mathlib.Core.Bool.{true};
 ghost use Prim.Native.Nat.{_+_, _≤_};
 ghost use Rattle.station.specs.Fit.{lastTick};
+ghost use Rattle.layout.specs.Layout.{systemOf};
 ghost use Rattle.election.specs.Sound.{sound};
-ghost use Rattle.election.specs.Tick.{tick, ticks};
-ghost use Rattle.ticks.specs.Sending.{Ticking};
-use crate::due::quiet_link;
+ghost use Rattle.election.specs.Tick.{ticks};
 use crate::due::quiet_station;
-use crate::steps::heard_link;
-use crate::steps::link_after;
+use crate::due::short_of;
 use crate::steps::sends_now;
-use crate::steps::sent_next;
+use crate::steps::sent_more;
 use crate::steps::timer_ends;
-use election::System;
+use election::Message;
+use layout::Layout;
+use layout::rules::unused;
 use station::rules::expire;
+use station::rules::hear;
 use station::rules::slot;
 
-// The system after a tick.
-pub fn tick(s: System) -> System
-    requires { ⌜ Ticking s ⌝ }
-    ensures { λ r. ⌜ r ≡ tick s ⌝ }
+// A count of messages, and a delay.
+fn count(x: u8) -> usize
+    ensures { λ r. ⌜ r ≡ x ⌝ }
 {
-    run(1, s)
+    x as usize
 }
 
-// The system after t ticks. After a tick the counter goes on to `until`: up to there nothing is due. From the
-// second tick on, a link that is empty and gets no message is left as it is.
-pub fn run(t: u32, mut s: System) -> System
-    requires { ⌜ (sound s ≡ true) × (s .ready ≡ true) × (s .tick + t ≤ lastTick) ⌝ }
-    ensures { λ r. ⌜ r ≡ ticks t s ⌝ }
+fn ticks_of(d: u8) -> u32
+    ensures { λ r. ⌜ (r ≡ d) × (r ≤ 255) ⌝ }
+{
+    d as u32
+}
+
+// The system after t ticks. In a tick each station hears what is due and its timer ends, then those that have a send chance take it;
+// after it the counter goes on to `until`: up to there nothing is due.
+pub fn run(t: u32, mut s: Layout) -> Layout
+    requires { ⌜ (sound (systemOf s) ≡ true) × (s .ready ≡ true) × (s .tick + t ≤ lastTick) ⌝ }
+    ensures { λ r. ⌜ systemOf r ≡ ticks t (systemOf s) ⌝ }
 {
     let end = s.tick + t;
     let n = s.n as usize;
-    let mut first = true;
+    let empty = unused();
     while s.tick < end {
         let now = s.tick + 1;
+        let mut until = end;
         for p in 0..n {
             for q in 0..n {
-                if s.links[8 * q + p].used != 0 {
-                    s.stations[p] = heard_link(p, q, now, s.links[8 * q + p], s.stations[p]);
+                let k = 8 * q + p;
+                let u = count(s.used[k]);
+                if u != 0 {
+                    let mut x = s.stations[p];
+                    let mut to = 0usize;
+                    for i in 0..u {
+                        let m = s.messages[4 * k + i];
+                        if m.due != now {
+                            until = short_of(now, m.due, until);
+                            s.messages[4 * k + to] = m;
+                            to += 1;
+                        } else {
+                            if x.up {
+                                let v = m.counts;
+                                x = hear(p as u8 + 1, q as u8 + 1, v, now, x);
+                            }
+                        }
+                    }
+                    for j in to..u {
+                        s.messages[4 * k + j] = empty;
+                    }
+                    s.used[k] = to as u8;
+                    s.stations[p] = x;
                 }
             }
             if timer_ends(now, s.stations[p]) {
                 s.stations[p] = expire(p as u8 + 1, s.stations[p]);
             }
         }
-        let mut until = end;
         for p in 0..n {
-            let x = s.stations[p];
-            let sends = sends_now(p as u8 + 1, now, x);
-            for q in 0..n {
-                let k = 8 * p + q;
-                if (p != q) & (first | sends | (s.links[k].used != 0)) {
-                    let l = link_after(now, sends, s.delays[k], x, s.links[k]);
-                    until = quiet_link(now, l, until);
-                    s.links[k] = l;
+            if sends_now(p as u8 + 1, now, s.stations[p]) {
+                let x = s.stations[p];
+                let counts = x.recovered;
+                for q in 0..n {
+                    let k = 8 * p + q;
+                    let d = ticks_of(s.delays[k]);
+                    if (p != q) & (d != 0) {
+                        let u = count(s.used[k]);
+                        let due = now + d;
+                        s.messages[4 * k + u] = Message {
+                            sent: now,
+                            due,
+                            counts,
+                        };
+                        s.used[k] = s.used[k] + 1;
+                        until = short_of(now, due, until);
+                    }
                 }
+                s.sent[p] = sent_more(s.n, s.sent[p]);
             }
-            s.sent[p] = sent_next(sends, s.n, s.sent[p]);
             if s.stations[p].slot == now {
                 s.stations[p] = slot(s.period, now, s.stations[p]);
             }
             until = quiet_station(now, s.stations[p], until);
         }
         s.tick = until;
-        first = false;
     }
     s
 }

@@ -21,10 +21,10 @@ returns-3 : tie.Need-returns-3
 returns-3 c = short _ _ (holds (c .before .before .before .before .before .sound .ensures) (c .before .before .before .before .if1 .left)) (not-false (c .before .before .before .before .before .before .before .args .s .ready) (c .before .before .if2 .left)) (omega arith)
 
 write-listing-requires : tie.Need-write-listing-requires
-write-listing-requires c κs = let start = c .before .before .before .before .before .before .before .before in (sound-of (start .args .s) (holds (c .before .before .before .before .before .before .sound .ensures) (c .before .before .before .before .before .if1 .left)) (not-false (start .args .s .ready) (c .before .before .before .if2 .left)) .n-high, omega arith)
+write-listing-requires c κs = let start = c .before .before .before .before .before .before .before .before .before .before in (sound-of (start .args .s) (holds (c .before .before .before .before .before .before .before .before .sound .ensures) (c .before .before .before .before .before .before .before .if1 .left)) (not-false (start .args .s .ready) (c .before .before .before .before .before .if2 .left)) .n-high, omega arith)
 
 returns-4 : tie.Need-returns-4
-returns-4 c = done _ _ (holds (c .before .before .before .before .before .before .before .before .before .sound .ensures) (c .before .before .before .before .before .before .before .before .if1 .left)) (not-false (c .before .before .before .before .before .before .before .before .before .before .before .args .s .ready) (c .before .before .before .before .before .before .if2 .left)) (omega arith) (c .before .before .write-listing .ensures)
+returns-4 c = done _ _ (holds (c .before .before .before .before .before .before .before .before .before .before .before .sound .ensures) (c .before .before .before .before .before .before .before .before .before .before .if1 .left)) (not-false (c .before .before .before .before .before .before .before .before .before .before .before .before .before .args .s .ready) (c .before .before .before .before .before .before .before .before .if2 .left)) (omega arith) (c .before .before .write-listing .ensures)
 
 pub listing-spec : {M : Type 1} → statement M
 listing-spec =

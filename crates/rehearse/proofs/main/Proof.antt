@@ -1,5 +1,5 @@
 -- The function main meets its contract.
-use Rattle.rehearse.specs.Stops.{sizeOf}
+use Rattle.rehearse.specs.Sizes.{sizeOf}
 use lib.Seq.{length-take-le}
 use lib.ListN.{length}
 use Prim.Native.Nat.{_≤_}

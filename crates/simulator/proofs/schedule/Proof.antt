@@ -1,84 +1,57 @@
 -- The function schedule meets its contract.
-use Rattle.simulator.proofs.Turns.{too-long, goes-on-after, past, ends-there, sound-there}
-use Rattle.election.proofs.InitialSound.{fresh-sound}
-use Rattle.election.proofs.GoingOn.{rest, rest-schedule}
-use Rattle.election.specs.Onward.{reportedOf, refusalOf}
-use Rattle.election.specs.declared.System.{System}
-use Prim.Native.Nat.{ℕ, _-_, _≤_}
-use borrow.Author.Needs.{needs}
-use Rattle.election.specs.System.{fresh}
-use Rattle.election.specs.Sound.{sound}
-use lib.ListN.{length}
+use mathlib.Core.Path.{_≡_, refl, sym, ap, _∙_}
+use mathlib.Core.List.{[], _∷_}
 use native.Mathlib.Omega.{arith}
-use mathlib.Core.Bool.{true}
-use mathlib.Core.Path.{_≡_, sym, ap, _∙_}
+use borrow.Author.Needs.{needs}
+use denote.Enum.Declared.{tagOf}
+use types.Run.{OneOf, miss}
+use Rattle.election.specs.declared.System.{System}
+use Rattle.election.proofs.InitialSound.{fresh-sound}
+use Rattle.simulator.specs.Gone.{refusalOf}
+use Rattle.simulator.specs.declared.rules.Stop.{Stop}
+use Rattle.simulator.specs.declared.rules.Stop.the-variants.{Full, End, Refused}
+use Rattle.simulator.proofs.Operations.{too-long, gone-through}
+use Rattle.simulator.proofs.rules.Stop.{the-type}
 use Rattle.simulator.proofs.schedule.Statement.{statement}
 use Rattle.simulator.proofs.schedule.Tie as tie
 
-abbrev Inv-loop : tie.InvT-loop
-Inv-loop bytes s₀ at₀ s at = (sound s ≡ true) × (at ≤ length bytes) × (rest s at bytes ≡ rest fresh 0 bytes)
+returns : tie.Need-returns
+returns c = ap (λ (x : System). record { refusal = 21; offset = 0; system = x }) (c .system-of .ensures ∙ c .before .fresh .ensures) ∙ too-long _ (omega arith)
 
-abbrev μ-loop : tie.MeasureT-loop
-μ-loop bytes s₀ at₀ s at = length bytes - at
+go-on-requires : tie.Need-go-on-requires
+go-on-requires c κs = rw (c .before .fresh2 .ensures) fresh-sound
 
-returns : tie.Need-returns Inv-loop μ-loop
-returns c = ap (λ (x : System). record { refusal = 21; offset = 0; system = x }) (c .before .fresh .ensures) ∙ too-long _ (omega arith)
+-- an end that is no refusal has no number
+no-number : (stop : Stop) → OneOf (0 ∷ 1 ∷ []) (tagOf the-type stop) → refusalOf stop ≡ 0
+no-number Full h = refl
+no-number End h = refl
+no-number (Refused why) h = absurd (miss (0 ∷ 1 ∷ []) 2 tt h)
 
-loop-holds : tie.Need-loop-holds Inv-loop μ-loop
-loop-holds c = (rw (c .before .fresh .ensures) fresh-sound, omega arith, ap (λ (x : System). rest x 0 (c .before .before .before .args .bytes .now)) (c .before .fresh .ensures))
-
-go-on-requires : tie.Need-go-on-requires Inv-loop μ-loop
-go-on-requires c κs = c .loop .inv .0
-
-loop-less : tie.Need-loop-less Inv-loop μ-loop
-loop-less c =
-    let s = c .before .before .before .before .loop .s in
-    let at = c .before .before .before .before .loop .at in
-    let bytes = c .before .before .before .before .before .before .before .before .args .bytes .now in
-    let r = c .before .before .before .go-on .result in
-    let (low, high) = past s at bytes r (c .before .before .before .go-on .ensures) (c .enum-told .given .1) in
-    omega (arith, low, high)
-
-loop-again : tie.Need-loop-again Inv-loop μ-loop
-loop-again c =
-    let s = c .before .before .before .before .loop .s in
-    let at = c .before .before .before .before .loop .at in
-    let bytes = c .before .before .before .before .before .before .before .before .args .bytes .now in
-    let r = c .before .before .before .go-on .result in
-    (sound-there s at bytes r (c .before .before .before .go-on .ensures) (c .before .before .before .before .loop .inv .0), past s at bytes r (c .before .before .before .go-on .ensures) (c .enum-told .given .1) .1, goes-on-after s at bytes r (c .before .before .before .go-on .ensures) (c .enum-told .given .1) ∙ c .before .before .before .before .loop .inv .2)
-
-returns-2 : tie.Need-returns-2 Inv-loop μ-loop
+returns-2 : tie.Need-returns-2
 returns-2 c =
-    let s = c .before .before .before .before .loop .s in
-    let at = c .before .before .before .before .loop .at in
-    let bytes = c .before .before .before .before .before .before .before .before .args .bytes .now in
-    let r = c .before .before .before .go-on .result in
-    let ended = c .enum-told2 .given .1 in
-    ap (λ (x : ℕ). record { refusal = x; offset = r .at; system = r .system }) (sym (ap refusalOf ended)) ∙ ends-there s at bytes r (c .before .before .before .go-on .ensures) (ap reportedOf ended) ∙ c .before .before .before .before .loop .inv .2 ∙ rest-schedule bytes (omega arith)
+    let g = c .before .before .before .before .before .before .go-on in
+    let x = c .before .before .before .system-of2 in
+    (λ i. record { refusal = refusalOf (sym (c .before .stop .given .1) i); offset = g .result .at; system = x .ensures i })
+    ∙ gone-through _ (0 ∷ []) _ (c .before .before .before .before .before .before .before .before .fresh2 .result) (g .result) (omega arith) (c .before .before .before .before .before .before .before .before .fresh2 .ensures) (g .ensures)
 
-returns-3 : tie.Need-returns-3 Inv-loop μ-loop
+returns-3 : tie.Need-returns-3
 returns-3 c =
-    let s = c .before .before .before .before .before .loop .s in
-    let at = c .before .before .before .before .before .loop .at in
-    let bytes = c .before .before .before .before .before .before .before .before .before .args .bytes .now in
-    let r = c .before .before .before .before .go-on .result in
-    let ended = c .before .stop .given .1 in
-    ap (λ (x : ℕ). record { refusal = x; offset = r .at; system = r .system }) (sym (ap refusalOf ended)) ∙ ends-there s at bytes r (c .before .before .before .before .go-on .ensures) (ap reportedOf ended) ∙ c .before .before .before .before .before .loop .inv .2 ∙ rest-schedule bytes (omega arith)
+    let g = c .before .before .before .before .go-on in
+    let x = c .before .system-of2 in
+    (λ i. record { refusal = sym (no-number (g .result .stop) (c .match .keys2)) i; offset = g .result .at; system = x .ensures i })
+    ∙ gone-through _ (0 ∷ []) _ (c .before .before .before .before .before .before .fresh2 .result) (g .result) (omega arith) (c .before .before .before .before .before .before .fresh2 .ensures) (g .ensures)
 
 pub schedule-spec : {M : Type 1} → statement M
 schedule-spec =
     tie.close
     (tie.spec
-    Inv-loop
-    μ-loop
+    (λ c κs. search needs)
     (λ c κs. search needs)
     returns
-    loop-holds
-    go-on-requires
+    (λ c κs. search needs)
     (λ c. search needs)
-    loop-less
-    loop-again
+    go-on-requires
+    (λ c κs. search needs)
     (λ c. search needs)
     returns-2
-    (λ c. search needs)
     returns-3)

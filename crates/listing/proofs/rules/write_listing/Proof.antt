@@ -8,42 +8,40 @@ use Rattle.listing.proofs.rules.write_listing.Tie as tie
 use Rattle.listing.proofs.rules.write_listing.Statement.{statement}
 
 put-last-requires : tie.Need-put-last-requires
-put-last-requires c κs = let start = c .before .before .before .before .before .before .before .before in room-tick (start .args .s) (start .pre .1)
+put-last-requires c κs = let start = c .before .before .before .before in room-tick _ _ _ _ (start .pre .1)
 
 sub-put-lines : tie.Need-sub-put-lines
-sub-put-lines c = let start = c .before .before .before .before .before .before .before .before .before .before .before in room-at (stationLines (start .args .s .n) (start .args .s .stations) (start .args .s .sent)) (c .before .before .put-last .ensures) (room-two _ (verdictLine (c .before .before .before .before .before .before .verdict .result)) (c .before .before .put-last .ensures) (room (start .args .s) (c .before .before .before .before .before .before .verdict .result) (c .before .before .before .before .before .before .verdict .ensures) (start .pre .1)))
+sub-put-lines c = let start = c .before .before .before .before .before .before .before in room-at (stationLines (start .args .n) (start .args .stations) (start .args .sent)) (c .before .before .put-last .ensures) (room-two _ (verdictLine (c .before .before .before .before .before .verdict .result)) (c .before .before .put-last .ensures) (room _ _ _ _ _ (c .before .before .before .before .before .verdict .ensures) (start .pre .1)))
 
 part-put-lines-start : tie.Need-part-put-lines-start
 part-put-lines-start c = sub-put-lines c
 
 put-lines-requires : tie.Need-put-lines-requires
-put-lines-requires c κs = let start = c .before .before .before .before .before .before .before .before .before .before .before .before in (search needs, room-part (stationLines (start .args .s .n) (start .args .s .stations) (start .args .s .sent)) (c .before .before .before .put-last .ensures) (room-two _ (verdictLine (c .before .before .before .before .before .before .before .verdict .result)) (c .before .before .before .put-last .ensures) (room (start .args .s) (c .before .before .before .before .before .before .before .verdict .result) (c .before .before .before .before .before .before .before .verdict .ensures) (start .pre .1))))
+put-lines-requires c κs = let start = c .before .before .before .before .before .before .before .before in (search needs, room-part (stationLines (start .args .n) (start .args .stations) (start .args .sent)) (c .before .before .before .put-last .ensures) (room-two _ (verdictLine (c .before .before .before .before .before .before .verdict .result)) (c .before .before .before .put-last .ensures) (room _ _ _ _ _ (c .before .before .before .before .before .before .verdict .ensures) (start .pre .1))))
 
 add-b : tie.Need-add-b
-add-b c = let start = c .before .before .before .before .before .before .before .before .before .before .before .before .before .before .before in record { fits = ends-in (wrote-part (c .before .before .before .before .before .before .put-last .ensures) (c .before .before .put-lines .ensures)) (room-two _ (verdictLine (c .before .before .before .before .before .before .before .before .before .before .verdict .result)) (c .before .before .before .before .before .before .put-last .ensures) (room (start .args .s) (c .before .before .before .before .before .before .before .before .before .before .verdict .result) (c .before .before .before .before .before .before .before .before .before .before .verdict .ensures) (start .pre .1))) (start .good .1 .0 .0) }
+add-b c = let start = c .before .before .before .before .before .before .before .before .before .before .before in record { fits = ends-in (wrote-part (c .before .before .before .before .before .before .put-last .ensures) (c .before .before .put-lines .ensures)) (room-two _ (verdictLine (c .before .before .before .before .before .before .before .before .before .verdict .result)) (c .before .before .before .before .before .before .put-last .ensures) (room _ _ _ _ _ (c .before .before .before .before .before .before .before .before .before .verdict .ensures) (start .pre .1))) (start .good .1 .1 .1 .1 .0 .0) }
 
 sub-put-verdict : tie.Need-sub-put-verdict
-sub-put-verdict c = let start = c .before .before .before .before .before .before .before .before .before .before .before .before .before .before .before in room-at (verdictLine (c .before .before .before .before .before .before .before .before .before .before .verdict .result)) (wrote-part (c .before .before .before .before .before .before .put-last .ensures) (c .before .before .put-lines .ensures)) (room (start .args .s) (c .before .before .before .before .before .before .before .before .before .before .verdict .result) (c .before .before .before .before .before .before .before .before .before .before .verdict .ensures) (start .pre .1))
+sub-put-verdict c = let start = c .before .before .before .before .before .before .before .before .before .before .before in room-at (verdictLine (c .before .before .before .before .before .before .before .before .before .verdict .result)) (wrote-part (c .before .before .before .before .before .before .put-last .ensures) (c .before .before .put-lines .ensures)) (room _ _ _ _ _ (c .before .before .before .before .before .before .before .before .before .verdict .ensures) (start .pre .1))
 
 part-put-verdict-start : tie.Need-part-put-verdict-start
 part-put-verdict-start c = sub-put-verdict c
 
 put-verdict-requires : tie.Need-put-verdict-requires
-put-verdict-requires c κs = let start = c .before .before .before .before .before .before .before .before .before .before .before .before .before .before .before .before in room-part (verdictLine (c .before .before .before .before .before .before .before .before .before .before .before .verdict .result)) (wrote-part (c .before .before .before .before .before .before .before .put-last .ensures) (c .before .before .before .put-lines .ensures)) (room (start .args .s) (c .before .before .before .before .before .before .before .before .before .before .before .verdict .result) (c .before .before .before .before .before .before .before .before .before .before .before .verdict .ensures) (start .pre .1))
+put-verdict-requires c κs = let start = c .before .before .before .before .before .before .before .before .before .before .before .before in room-part (verdictLine (c .before .before .before .before .before .before .before .before .before .before .verdict .result)) (wrote-part (c .before .before .before .before .before .before .before .put-last .ensures) (c .before .before .before .put-lines .ensures)) (room _ _ _ _ _ (c .before .before .before .before .before .before .before .before .before .before .verdict .ensures) (start .pre .1))
 
 add-result : tie.Need-add-result
-add-result c = let start = c .before .before .before .before .before .before .before .before .before .before .before .before .before .before .before .before .before .before .before in record { fits = ends-in (wrote-part (wrote-part (c .before .before .before .before .before .before .before .before .before .before .put-last .ensures) (c .before .before .before .before .before .before .put-lines .ensures)) (c .before .before .put-verdict .ensures)) (room (start .args .s) (c .before .before .before .before .before .before .before .before .before .before .before .before .before .before .verdict .result) (c .before .before .before .before .before .before .before .before .before .before .before .before .before .before .verdict .ensures) (start .pre .1)) (start .good .1 .0 .0) }
+add-result c = let start = c .before .before .before .before .before .before .before .before .before .before .before .before .before .before .before in record { fits = ends-in (wrote-part (wrote-part (c .before .before .before .before .before .before .before .before .before .before .put-last .ensures) (c .before .before .before .before .before .before .put-lines .ensures)) (c .before .before .put-verdict .ensures)) (room _ _ _ _ _ (c .before .before .before .before .before .before .before .before .before .before .before .before .before .verdict .ensures) (start .pre .1)) (start .good .1 .1 .1 .1 .0 .0) }
 
 returns : tie.Need-returns
-returns c = rw (sym (listing-is (c .before .before .before .before .before .before .before .before .before .before .before .before .before .before .before .before .before .before .before .args .s) (c .before .before .before .before .before .before .before .before .before .before .before .before .before .before .verdict .result) (c .before .before .before .before .before .before .before .before .before .before .before .before .before .before .verdict .ensures))) (wrote-part (wrote-part (c .before .before .before .before .before .before .before .before .before .before .put-last .ensures) (c .before .before .before .before .before .before .put-lines .ensures)) (c .before .before .put-verdict .ensures))
+returns c = let start = c .before .before .before .before .before .before .before .before .before .before .before .before .before .before .before in rw (sym (listing-is (start .args .n) (start .args .tick) (start .args .stations) (start .args .sent) _ (c .before .before .before .before .before .before .before .before .before .before .before .before .before .verdict .ensures))) (wrote-part (wrote-part (c .before .before .before .before .before .before .before .before .before .before .put-last .ensures) (c .before .before .before .before .before .before .put-lines .ensures)) (c .before .before .put-verdict .ensures))
 
 pub write-listing-spec : {M : Type 1} → statement M
 write-listing-spec =
     tie.close
     (tie.spec
-    (λ c. search needs)
     (λ c κs. search needs)
-    (λ c. search needs)
     (λ c. search needs)
     put-last-requires
     sub-put-lines

@@ -1,5 +1,5 @@
 -- The function input::read_schedule meets its contract.
-use Rattle.rehearse.specs.Stops.{sizeOf}
+use Rattle.rehearse.specs.Sizes.{sizeOf}
 use borrow.Rule.Slice.PartMut.{same-len-mid, mid-len}
 use Prim.Native.Nat.{_+_, _-_, _≤_}
 use mathlib.Core.Path.{subst, _∙_, _≡_}

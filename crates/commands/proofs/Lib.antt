@@ -1,2 +1,0 @@
--- What accepted commands leave.
-pub mod Initial

@@ -1,0 +1,2 @@
+-- A system laid out for work in place.
+pub mod Layout
