@@ -5,16 +5,17 @@ use mathlib.Core.List.{[], _∷_}
 use mathlib.Core.Bool.{and-false}
 use Prim.Native.Nat.{ℕ, _+_, _-_, _<_, _≤_}
 use native.Mathlib.Omega.{arith}
-use lib.ListN.{length, getD, drop, length-drop, length-map}
-use lib.Seq.{take-all}
+use lib.ListN.{length, getD, length-map, length-append}
 use borrow.Author.Needs.{needs}
 use Rattle.station.specs.declared.Station.{Station}
 use Rattle.election.specs.Commands.{SetUp, Start, Crash, Link, Run, Lose, Report, decode, operands, perform, withStation}
 use Rattle.election.specs.System.{unused, initial}
 use Rattle.election.proofs.Accepting.{accepts}
 use Rattle.election.proofs.Soundness.{sound-of}
+use Rattle.election.specs.Listing.{listing}
 use Rattle.layout.specs.Layout.{systemOf}
 use Rattle.layout.proofs.Stores.{Wide, Clearing, clearing-none, clearing-turn}
+use Rattle.listing.proofs.Parts.{room-part}
 use Rattle.listing.proofs.Room.{listing-room}
 use Rattle.simulator.specs.Decided.{meaning}
 use Rattle.simulator.proofs.Turns.{decided-of, station-stored, delay-stored, messages-stored, Going, going-first, same-size, ends, turned-down, taken, stops-full, inside-after, further, listed}
@@ -293,7 +294,7 @@ write-listing-requires c κs =
     let m = decided-of s bytes at (c .before .before .before .before .before .before .before .before .before .before .named .result) d (g .is-sound) (c .before .before .before .before .before .before .before .before .before .before .named .ensures) (c .before .before .before .before .before .before .before .decide .ensures) in
     let ready = accepts Report (systemOf s) (taken list bytes old s₀ from s at size buffer g inside d m Report (ap meaning (c .before .before .before .before .before .enum-told .given .1)) .1) in
     let few = sound-of (systemOf s) (g .is-sound) ready .n-high in
-    (few, rw (take-all (length buffer - size) (drop size buffer) (omega (arith, length-drop size buffer))) (omega (arith, listing-room (systemOf s) few, c .before .before .before .if2 .left, length-drop size buffer)))
+    (few, room-part (listing (systemOf s)) (g .wrote) (omega (arith, listing-room (systemOf s) few, c .before .before .before .if2 .left, g .wrote .count, same-size list bytes old s₀ from s at size buffer g, length-append (g .text) (listing (systemOf s)))))
 
 add-size : tie.Need-add-size Inv-loop2 μ-loop2 Inv-loop μ-loop
 add-size c =
