@@ -40,7 +40,8 @@ struct link {
 static bool ready; // set up is done
 static uint32_t stations, period, tick;
 static struct station station[STATIONS + 1];
-static struct link links[STATIONS + 1][STATIONS + 1]; // by receiver, then sender
+static struct link links[STATIONS + 1][STATIONS + 1]; // by sender, then receiver
+static bool busy[STATIONS + 1]; // whether a station may have messages under way
 static uint8_t schedule[MAX_SCHEDULE + 1];
 static char output[65536];
 
@@ -118,12 +119,21 @@ static void set_up(uint32_t n, uint32_t eta) {
     }
 }
 
-// Delivers the messages due now from q to p; the others close up in order.
-static void deliver(uint32_t p, uint32_t q) {
-    struct link *l = &links[p][q];
+// The next tick at which something is due, found while a tick is done.
+static uint32_t next_due;
+
+static void due_at(uint32_t due) {
+    if (due < next_due)
+        next_due = due;
+}
+
+// Delivers the messages due now from q to p; the others close up in order. Answers whether any are left.
+static bool deliver(uint32_t q, uint32_t p) {
+    struct link *l = &links[q][p];
     uint32_t left = 0;
     for (uint32_t i = 0; i < l->count; i++) {
         if (l->message[i].due != tick) {
+            due_at(l->message[i].due);
             if (left != i)
                 l->message[left] = l->message[i];
             left++;
@@ -132,58 +142,54 @@ static void deliver(uint32_t p, uint32_t q) {
         }
     }
     l->count = left;
+    return left != 0;
 }
 
 static void send_leader(uint32_t p) {
     for (uint32_t q = 1; q <= stations; q++) {
-        struct link *l = &links[q][p];
+        struct link *l = &links[p][q];
         if (q == p || l->delay == 0)
             continue;
         struct message *m = &l->message[l->count++];
         m->due = tick + l->delay;
         memcpy(m->recovered, station[p].recovered, sizeof m->recovered);
+        due_at(m->due);
     }
     station[p].sent += stations - 1;
+    busy[p] = true;
 }
 
-// What is due at this tick, in the order of the rules.
+// What is due at this tick, in the order of the rules: each station hears its senders in ascending order.
 static void do_tick(void) {
-    for (uint32_t p = 1; p <= stations; p++)
-        for (uint32_t q = 1; q <= stations; q++)
-            if (links[p][q].count != 0)
-                deliver(p, q);
-    for (uint32_t p = 1; p <= stations; p++)
-        if (station[p].timer == tick)
-            timer_ends(p);
-    for (uint32_t p = 1; p <= stations; p++)
-        if (station[p].slot == tick && send_chance(p))
-            send_leader(p);
-}
-
-// The next tick at which something is due, or end if that comes first.
-static uint32_t next_due(uint32_t end) {
-    uint32_t next = end;
+    for (uint32_t q = 1; q <= stations; q++) {
+        if (!busy[q])
+            continue;
+        busy[q] = false;
+        for (uint32_t p = 1; p <= stations; p++)
+            if (links[q][p].count != 0 && deliver(q, p))
+                busy[q] = true;
+    }
     for (uint32_t p = 1; p <= stations; p++) {
         const struct station *s = &station[p];
-        if (s->up && s->slot < next)
-            next = s->slot;
-        if (s->timer != 0 && s->timer < next)
-            next = s->timer;
-        for (uint32_t q = 1; q <= stations; q++) {
-            const struct link *l = &links[p][q];
-            for (uint32_t i = 0; i < l->count; i++)
-                if (l->message[i].due < next)
-                    next = l->message[i].due;
-        }
+        if (s->timer == tick)
+            timer_ends(p);
+        if (s->slot == tick && send_chance(p))
+            send_leader(p);
+        if (s->up)
+            due_at(s->slot);
+        if (s->timer != 0)
+            due_at(s->timer);
     }
-    return next;
 }
 
+// Ticks at which nothing is due are passed over.
 static void run(uint32_t ticks) {
     uint32_t end = tick + ticks;
     while (tick < end) {
-        tick = next_due(end);
+        tick++;
+        next_due = end + 1;
         do_tick();
+        tick = next_due - 1;
     }
 }
 
@@ -291,9 +297,9 @@ static int do_command(const uint8_t *bytes, size_t length) {
         if (operand[0] == operand[1]) return 11;
         if (command == LINK && operand[2] > MAX_DELAY) return 12;
         if (command == LINK)
-            links[operand[1]][operand[0]].delay = operand[2];
+            links[operand[0]][operand[1]].delay = operand[2];
         else
-            links[operand[1]][operand[0]].count = 0;
+            links[operand[0]][operand[1]].count = 0;
         break;
     case RUN: {
         uint32_t ticks = operand[0] + 256u * operand[1];

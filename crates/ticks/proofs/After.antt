@@ -120,11 +120,14 @@ withSent cs s =
 
 module _ (n now : ℕ) (m : System) (until : ℕ) (s : System) (p c k : ℕ) (a : Part n now m until s p c k) where
   -- what the code reads is still as it was
-  pub part-station : getD (s .stations) p noStation ≡ getD (m .stations) p noStation
+  pub part-beyond : (j : ℕ) → p ≤ j → getD (s .stations) j noStation ≡ getD (m .stations) j noStation
   unfolding sentTo
-  part-station =
-      let z : p + 0 ≡ p = omega arith in
-      ap (λ (x : System). getD (x .stations) p noStation) (a .same) ∙ rw z at (firsts-beyond p 0 (stationAfter now m) (m .stations) noStation)
+  part-beyond j h =
+      let z : p + (j - p) ≡ j = omega arith in
+      ap (λ (x : System). getD (x .stations) j noStation) (a .same) ∙ rw z at (firsts-beyond p (j - p) (stationAfter now m) (m .stations) noStation)
+
+  part-station : getD (s .stations) p noStation ≡ getD (m .stations) p noStation
+  part-station = part-beyond p (omega arith)
 
   pub part-sent : getD (s .sent) c 0 ≡ getD (m .sent) c 0
   unfolding sentTo
@@ -223,9 +226,9 @@ module _ (n now : ℕ) (m : System) (until : ℕ) (s : System) (p c k : ℕ) (a 
         calm-kept = λ t j b d. a .calm-kept t j b (omega arith);
       }
 
-  stations-long : p < 8 → p < length (s .stations)
+  pub part-long : p ≤ 8 → length (s .stations) ≡ 8
   unfolding sentTo
-  stations-long h = rw (a .same) (omega (arith, length-firsts p (stationAfter now m) (m .stations) (omega (arith, a .mid .stations-long)), a .mid .stations-long))
+  part-long h = rw (a .same) (omega (arith, length-firsts p (stationAfter now m) (m .stations) (omega (arith, a .mid .stations-long)), a .mid .stations-long))
 
   pub part-slots : (until′ : ℕ) (v : Station) (y : System) → p < 8 → until′ ≤ until → getD (s .stations) p noStation .slot ≡ now → v ≡ slotted (s .period) now (getD (s .stations) p noStation)
       → y ≡ withStations (set (s .stations) p v) s → ((t : ℕ) → now < t → t ≤ until′ → quietStation t (getD (y .stations) p noStation) ≡ true) → Part n now m until′ y (p + 1) c k
@@ -234,7 +237,7 @@ module _ (n now : ℕ) (m : System) (until : ℕ) (s : System) (p c k : ℕ) (a 
       rw g
       (stationed until′ v h le
       (e ∙ ap (λ (x : ℕ). slotted x now (getD (s .stations) p noStation)) part-period ∙ sym (cond-yes {b = eqb (getD (s .stations) p noStation .slot) now} _ _ (eq-eqb _ _ due)) ∙ ap (slottedNow (m .period) now) part-station)
-      (λ t b d. subst (λ x. quietStation t x ≡ true) (ap (λ (z : System). getD (z .stations) p noStation) g ∙ getD-set-same (s .stations) p v noStation (stations-long h)) (calm t b d)))
+      (λ t b d. subst (λ x. quietStation t x ≡ true) (ap (λ (z : System). getD (z .stations) p noStation) g ∙ getD-set-same (s .stations) p v noStation (omega (arith, part-long (omega arith)))) (calm t b d)))
 
   pub part-waits : (until′ : ℕ) (y : System) → p < 8 → until′ ≤ until → (getD (s .stations) p noStation .slot ≡ now → ⊥) → y ≡ s → ((t : ℕ) → now < t → t ≤ until′ → quietStation t (getD (y .stations) p noStation) ≡ true)
       → Part n now m until′ y (p + 1) c k

@@ -1,17 +1,17 @@
--- (a) and (b) as the code goes: station by station, each from sender to sender.
+-- (a) as the code goes: sender by sender, each from receiver to receiver; and (b).
 use mathlib.Core.Path.{_≡_, refl, sym, ap, _∙_}
 use mathlib.Core.List.{List}
 use mathlib.Core.Bool.{Bool, true, false, cond, _&&_}
 use Prim.Native.Nat.{ℕ, zero, suc, _+_, _-_, _*_, _<_, _≤_}
+use native.Mathlib.Decide.{decLt, ℕ-discrete}
 use native.Mathlib.Omega.{arith}
-use lib.Dec.{eqb}
-use lib.ListN.{length, getD, set, take}
-use lib.Seq.{set-getD, set-set, getD-set-same}
-use borrow.Author.Tests.{eqb-true}
+use lib.Dec.{ltb, eqb}
+use lib.ListN.{length, getD, take}
+use borrow.Author.Tests.{eqb-true, lt-ltb, le-ltb}
 use Rattle.lists.specs.Entries.{firsts}
 use Rattle.lists.specs.Fold.{each}
 use Rattle.lists.proofs.Bools.{both, cond-yes, cond-no, cond-elim}
-use Rattle.lists.proofs.Entries.{firsts-zero, firsts-turn, firsts-beyond, length-firsts}
+use Rattle.lists.proofs.Entries.{upTo-same, firsts-cond}
 use Rattle.lists.proofs.Fold.{each-turn}
 use Rattle.station.specs.Order.{entry}
 use Rattle.station.specs.Fit.{lastTick, longest}
@@ -22,8 +22,9 @@ use Rattle.election.specs.Tick.{heardAll, expiredNow, settled}
 use Rattle.election.specs.declared.Message.{Message}
 use Rattle.election.specs.declared.System.{System}
 use Rattle.election.proofs.Steps.{heard-none, heardAll-unchanged, heardAll-timeouts}
+use Rattle.layout.proofs.Stores.{withLinks}
 use Rattle.ticks.specs.Sending.{Ticking, hears, timerEnds}
-use Rattle.ticks.proofs.Ready.{is, used-at, timeout-at, timer-at}
+use Rattle.ticks.proofs.Ready.{timeout-at, timer-at}
 
 -- the system with other stations
 abbrev pub withStations : List Station → System → System
@@ -42,10 +43,6 @@ withStations xs s =
 -- the station at place p after the first q senders
 unfoldable pub heardFrom : System → ℕ → ℕ → Station
 heardFrom s p q = each q (λ k. hears (p + 1) (k + 1) (s .tick + 1) (underway s (k + 1) (p + 1))) (getD (s .stations) p noStation)
-
--- the system in which it has come so far
-abbrev pub hearing : System → ℕ → ℕ → System
-hearing s p q = withStations (set (s .stations) p (heardFrom s p q)) s
 
 -- the system whose first p stations are after (a) and (b)
 unfoldable pub settledTo : System → ℕ → System
@@ -118,91 +115,111 @@ module _ (s : System) (p : ℕ) (e : Station) (h : e ≡ heardFrom s p (s .n)) w
       timer-at s t p p hp hp e (h ∙ heard-up s p (s .n) up) up (eqb-true (e .timer) (s .tick + 1) d)
 
 -- a sender more
-pub hearing-first : (s : System) (p : ℕ) → s ≡ hearing s p 0
-unfolding heardFrom each
-hearing-first s p = ap (λ l. withStations l s) (sym (set-getD (s .stations) p noStation))
-
-module _ (s r : System) (p q : ℕ) (e : r ≡ hearing s p q) where
-  inbox : messages (getD (r .links) (8 * q + p) noLink) ≡ underway s (q + 1) (p + 1)
+module _ (s : System) (p q : ℕ) where
+  inbox : messages (getD (s .links) (8 * q + p) noLink) ≡ underway s (q + 1) (p + 1)
   inbox =
       let a : p + 1 - 1 ≡ p = omega arith in
       let b : q + 1 - 1 ≡ q = omega arith in
-      ap (λ (z : System). messages (getD (z .links) (8 * q + p) noLink)) e ∙ rw (a, b)
+      rw (a, b)
 
-  module _ (h : p < length (s .stations)) where
-    hearing-at : getD (r .stations) p noStation ≡ heardFrom s p q
-    hearing-at = ap (λ (z : System). getD (z .stations) p noStation) e ∙ getD-set-same (s .stations) p (heardFrom s p q) noStation h
-
-    pub hearing-turn : (now : ℕ) (v : Station) → now ≡ s .tick + 1 → v ≡ hears (p + 1) (q + 1) now (messages (getD (r .links) (8 * q + p) noLink)) (getD (r .stations) p noStation)
-        → withStations (set (r .stations) p v) r ≡ hearing s p (q + 1)
-    unfolding heardFrom
-    hearing-turn now v c g =
-        ap (λ (z : System). withStations (set (z .stations) p v) z) e
-        ∙ ap (λ l. withStations l s) (set-set (s .stations) p (heardFrom s p q) v)
-        ∙ ap (λ x. withStations (set (s .stations) p x) s) (each-turn q _ _ (heardFrom s p q) v refl (g ∙ ap (λ n. hears (p + 1) (q + 1) n (messages (getD (r .links) (8 * q + p) noLink)) (getD (r .stations) p noStation)) c ∙ ap (λ x. hears (p + 1) (q + 1) (s .tick + 1) (messages (getD (r .links) (8 * q + p) noLink)) x) hearing-at ∙ ap (λ ms. hears (p + 1) (q + 1) (s .tick + 1) ms (heardFrom s p q)) inbox))
+  heardFrom-next : (now : ℕ) (x v : Station) → now ≡ s .tick + 1 → x ≡ heardFrom s p q → v ≡ hears (p + 1) (q + 1) now (messages (getD (s .links) (8 * q + p) noLink)) x → v ≡ heardFrom s p (q + 1)
+  unfolding heardFrom
+  heardFrom-next now x v c e g =
+      each-turn q _ _ (heardFrom s p q) v refl
+      (g ∙ ap (λ n. hears (p + 1) (q + 1) n (messages (getD (s .links) (8 * q + p) noLink)) x) c ∙ ap (λ x. hears (p + 1) (q + 1) (s .tick + 1) (messages (getD (s .links) (8 * q + p) noLink)) x) e
+      ∙ ap (λ ms. hears (p + 1) (q + 1) (s .tick + 1) ms (heardFrom s p q)) inbox)
 
   -- with no message, nothing changes
-  pub hearing-none : getD (r .links) (8 * q + p) noLink .used ≡ 0 → r ≡ hearing s p (q + 1)
+  heardFrom-none : getD (s .links) (8 * q + p) noLink .used ≡ 0 → heardFrom s p q ≡ heardFrom s p (q + 1)
   unfolding heardFrom hears messages
-  hearing-none z =
-      e ∙ ap (λ x. withStations (set (s .stations) p x) s) (each-turn q _ _ (heardFrom s p q) (heardFrom s p q) refl (sym (cond-elim (λ x. x ≡ heardFrom s p q) (heardFrom s p q .up) (λ u. heard-none (p + 1) (q + 1) (s .tick + 1) (underway s (q + 1) (p + 1)) (heardFrom s p q) (sym inbox ∙ ap (λ u. take u (getD (r .links) (8 * q + p) noLink .messages)) z)) (λ u. refl))))
+  heardFrom-none z =
+      each-turn q _ _ (heardFrom s p q) (heardFrom s p q) refl
+      (sym (cond-elim (λ x. x ≡ heardFrom s p q) (heardFrom s p q .up) (λ u. heard-none (p + 1) (q + 1) (s .tick + 1) (underway s (q + 1) (p + 1)) (heardFrom s p q) (sym inbox ∙ ap (λ u. take u (getD (s .links) (8 * q + p) noLink .messages)) z)) (λ u. refl)))
 
--- a station more
-pub settled-none : (s : System) → s ≡ settledTo s 0
-unfolding settledTo
-settled-none s = ap (λ l. withStations l s) (firsts-zero (λ k. settled s (k + 1)) (s .stations))
+-- in s the first p of n stations have heard one sender more than the first q senders of r, the others just those
+pub record Hearing (r : System) (n p q : ℕ) (s : System) : Type 0 where
+  pub same : withLinks (r .links) s ≡ withStations (s .stations) r
+  pub long : length (s .stations) ≡ 8
+  pub heard : (j : ℕ) → j < p → j < n → getD (s .stations) j noStation ≡ heardFrom r j (q + 1)
+  pub waits : (j : ℕ) → p ≤ j → j < n → getD (s .stations) j noStation ≡ heardFrom r j q
+  pub others : (j : ℕ) → n ≤ j → getD (s .stations) j noStation ≡ getD (r .stations) j noStation
 
-module _ (s r : System) (p : ℕ) (e : r ≡ settledTo s p) where
-  pub settled-tick : s .tick + 1 ≡ r .tick + 1
+pub hearing-none : (r : System) (n : ℕ) → length (r .stations) ≡ 8 → Hearing r n 0 0 r
+unfolding heardFrom each
+hearing-none r n long = record { same = refl; long = long; heard = λ j h i. absurd (omega arith); waits = λ j h i. refl; others = λ j h. refl }
+
+module _ (r : System) (n p q : ℕ) (s : System) (a : Hearing r n p q s) where
+  pub hearing-tick : s .tick + 1 ≡ r .tick + 1
+  hearing-tick = ap (λ (z : System). z .tick + 1) (a .same)
+
+  -- what hearing is given
+  pub hearing-ready : Ticking r → p < n → n ≡ r .n → q < r .n → (x : Station) → x .timeouts ≡ getD (s .stations) p noStation .timeouts → (r .tick + 1 ≤ lastTick) × (entry (x .timeouts) (q + 1) ≤ longest lastTick)
+  hearing-ready t hp z hq x e =
+      let hp′ : p < r .n = omega arith in
+      (omega (arith, t .room), timeout-at r t p q hp′ hq x (e ∙ ap (λ (z : Station). z .timeouts) (a .waits p (omega arith) hp) ∙ heardFrom-timeouts r p q))
+
+  -- past the last receiver
+  pub hearing-row : p ≡ n → Hearing r n 0 (q + 1) s
+  hearing-row z = record { same = a .same; long = a .long; heard = λ j h i. absurd (omega arith); waits = λ j h i. a .heard j (omega arith) i; others = a .others }
+
+  -- a sender with no message
+  pub hearing-rests : p ≡ 0 → ((j : ℕ) → j < n → getD (r .links) (8 * q + j) noLink .used ≡ 0) → Hearing r n 0 (q + 1) s
+  hearing-rests z f =
+      record { same = a .same; long = a .long; heard = λ j h i. absurd (omega arith); waits = λ j h i. a .waits j (omega arith) i ∙ heardFrom-none r j q (f j i); others = a .others }
+
+  -- a receiver more
+  module _ (hp : p < n) where
+    pub hearing-turn : (y : System) (now : ℕ) → withLinks (r .links) y ≡ withStations (y .stations) r → length (y .stations) ≡ 8 → ((j : ℕ) → (j ≡ p → ⊥) → getD (y .stations) j noStation ≡ getD (s .stations) j noStation)
+        → now ≡ r .tick + 1 → getD (y .stations) p noStation ≡ hears (p + 1) (q + 1) now (messages (getD (r .links) (8 * q + p) noLink)) (getD (s .stations) p noStation) → Hearing r n (p + 1) q y
+    hearing-turn y now e l f c g =
+        record {
+          same = e;
+          long = l;
+          heard = λ j h i. at j h i (ℕ-discrete j p);
+          waits = λ j h i. f j (λ z. omega arith) ∙ a .waits j (omega arith) i;
+          others = λ j h. f j (λ z. omega arith) ∙ a .others j h;
+        }
+      where
+        at : (j : ℕ) → j < p + 1 → j < n → Dec (j ≡ p) → getD (y .stations) j noStation ≡ heardFrom r j (q + 1)
+        at j h i (yes z) = rw z (heardFrom-next r p q now (getD (s .stations) p noStation) (getD (y .stations) p noStation) c (a .waits p (omega arith) hp) g)
+        at j h i (no z) = f j z ∙ a .heard j (omega arith) i
+
+    pub hearing-skips : getD (r .links) (8 * q + p) noLink .used ≡ 0 → Hearing r n (p + 1) q s
+    hearing-skips u = record { same = a .same; long = a .long; heard = λ j h i. at j h i (ℕ-discrete j p); waits = λ j h i. a .waits j (omega arith) i; others = a .others }
+      where
+        at : (j : ℕ) → j < p + 1 → j < n → Dec (j ≡ p) → getD (s .stations) j noStation ≡ heardFrom r j (q + 1)
+        at j h i (yes z) = rw z (a .waits p (omega arith) hp ∙ heardFrom-none r p q u)
+        at j h i (no z) = a .heard j (omega arith) i
+
+-- the station at place p after (b), if x is it after (a)
+abbrev pub endedAt : ℕ → ℕ → Station → Station
+endedAt now p x = cond (timerEnds now x) (expired (p + 1) x) x
+
+-- the system whose n stations are after (b)
+abbrev pub endedTo : ℕ → ℕ → System → System
+endedTo n now s = withStations (firsts n (λ k. endedAt now k (getD (s .stations) k noStation)) (s .stations)) s
+
+-- after the last sender
+module _ (r : System) (n q : ℕ) (s : System) (a : Hearing r n 0 q s) (z : q ≡ n) (size : r .n ≡ n) where
+  heard-all : (j : ℕ) → j < n → getD (s .stations) j noStation ≡ heardFrom r j (r .n)
+  heard-all j h = a .waits j (omega arith) h ∙ ap (heardFrom r j) (z ∙ sym size)
+
+  -- a timer that is due can end
+  pub timer-ready : Ticking r → (p : ℕ) → p < n → (x : Station) → x ≡ getD (s .stations) p noStation → timerEnds (r .tick + 1) x ≡ true → (1 ≤ x .leader) × (x .leader ≤ 8) × (entry (x .timeouts) (x .leader) ≤ longest lastTick)
+  timer-ready t p hp x e = ends-safely r p x (e ∙ heard-all p hp) t (omega arith)
+
+  -- and where all have ended, stations are settled
+  pub settled-all : n ≤ 8 → length (r .stations) ≡ 8 → withLinks (s .links) (settledTo r (r .n)) ≡ endedTo n (r .tick + 1) s
   unfolding settledTo
-  settled-tick = ap (λ (z : System). z .tick + 1) (sym e)
+  settled-all hn long =
+      ap (λ xs. withLinks (s .links) (withStations xs r))
+      (ap (λ k. firsts k (λ k. settled r (k + 1)) (r .stations)) size ∙ firsts-cond n 8 (λ k. settled r (k + 1)) (r .stations) noStation long hn
+      ∙ upTo-same 8 _ _ (λ k h. at k (decLt k n)) ∙ sym (firsts-cond n 8 f (s .stations) noStation (a .long) hn))
+      ∙ ap (λ (y : System). withLinks (s .links) (withStations (firsts n f (s .stations)) y)) (sym (a .same))
+    where
+      f : ℕ → Station
+      f k = endedAt (r .tick + 1) k (getD (s .stations) k noStation)
 
-  settled-links : r .links ≡ s .links
-  unfolding settledTo
-  settled-links = ap (λ (z : System). z .links) e
-
-  unsettled : (q : ℕ) → heardFrom r p q ≡ heardFrom s p q
-  unfolding heardFrom settledTo
-  unsettled q =
-      let z : p + 0 ≡ p = omega arith in
-      ap (λ z. heardFrom z p q) e ∙ ap (each q (λ k. hears (p + 1) (k + 1) (s .tick + 1) (underway s (k + 1) (p + 1)))) (rw z at (firsts-beyond p 0 (λ k. settled s (k + 1)) (s .stations) noStation))
-
-  module _ (h : p < length (s .stations)) where
-    pub stations-long : p < length (r .stations)
-    unfolding settledTo
-    stations-long = rw e (omega (arith, length-firsts p (λ k. settled s (k + 1)) (s .stations) (omega arith)))
-
-    module _ (x : System) (q : ℕ) (f : x ≡ hearing r p q) where
-      heard-at-place : getD (x .stations) p noStation ≡ heardFrom s p q
-      heard-at-place = hearing-at r x p q f stations-long ∙ unsettled q
-
-      -- what hearing is given
-      pub hearing-ready : Ticking s → p < s .n → q < s .n → (p < 8) × (q < 8) × (getD (x .links) (8 * q + p) noLink .used ≤ 4) × (s .tick + 1 ≤ lastTick) × (entry (getD (x .stations) p noStation .timeouts) (q + 1) ≤ longest lastTick)
-      hearing-ready t hp hq =
-          (omega (arith, is s t .n-high), omega (arith, is s t .n-high), rw (ap (λ (z : System). z .links) f ∙ settled-links) (used-at s t p q hp hq), omega (arith, t .room), timeout-at s t p q hp hq (getD (x .stations) p noStation) (ap (λ (z : Station). z .timeouts) heard-at-place ∙ heardFrom-timeouts s p q))
-
-      module _ (z : q ≡ s .n) where
-        all-heard-at : getD (x .stations) p noStation ≡ heardFrom s p (s .n)
-        all-heard-at = heard-at-place ∙ ap (heardFrom s p) z
-
-        settled-turn : (v : Station) → v ≡ settled s (p + 1) → withStations (set (x .stations) p v) x ≡ settledTo s (p + 1)
-        unfolding settledTo
-        settled-turn v g =
-            ap (λ (z : System). withStations (set (z .stations) p v) z) f
-            ∙ ap (λ l. withStations l r) (set-set (r .stations) p (heardFrom r p q) v)
-            ∙ ap (λ (z : System). withStations (set (z .stations) p v) z) e
-            ∙ ap (λ l. withStations l s) (firsts-turn p (λ k. settled s (k + 1)) (s .stations) _ v h refl g)
-
-        -- a timer that is due can end, and does
-        pub timer-ready : Ticking s → p < s .n → timerEnds (s .tick + 1) (getD (x .stations) p noStation) ≡ true
-            → (1 ≤ getD (x .stations) p noStation .leader) × (getD (x .stations) p noStation .leader ≤ 8) × (entry (getD (x .stations) p noStation .timeouts) (getD (x .stations) p noStation .leader) ≤ longest lastTick)
-        timer-ready = ends-safely s p (getD (x .stations) p noStation) all-heard-at
-
-        pub settled-ends : (v : Station) → timerEnds (s .tick + 1) (getD (x .stations) p noStation) ≡ true → v ≡ expired (p + 1) (getD (x .stations) p noStation)
-            → withStations (set (x .stations) p v) x ≡ settledTo s (p + 1)
-        settled-ends v t g = settled-turn v (g ∙ sym (cond-yes _ _ t) ∙ settled-is s p (getD (x .stations) p noStation) all-heard-at)
-
-        pub settled-waits : timerEnds (s .tick + 1) (getD (x .stations) p noStation) ≡ false → x ≡ settledTo s (p + 1)
-        settled-waits t =
-            ap (λ l. withStations l x) (sym (set-getD (x .stations) p noStation))
-            ∙ settled-turn (getD (x .stations) p noStation) (sym (cond-no _ _ t) ∙ settled-is s p (getD (x .stations) p noStation) all-heard-at)
+      at : (k : ℕ) → Dec (k < n) → cond (ltb k n) (settled r (k + 1)) (getD (r .stations) k noStation) ≡ cond (ltb k n) (f k) (getD (s .stations) k noStation)
+      at k (yes h) = rw (lt-ltb k n h) (sym (settled-is r k (getD (s .stations) k noStation) (heard-all k h)))
+      at k (no h) = rw (le-ltb k n (omega arith)) (sym (a .others k (omega arith)))

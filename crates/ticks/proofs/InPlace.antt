@@ -23,7 +23,7 @@ use Rattle.station.proofs.Unchanged.{heard-unchanged, heard-timeouts}
 use Rattle.layout.specs.Layout.{linkOf, systemOf}
 use Rattle.election.specs.Idle.{quietLink}
 use Rattle.election.specs.Sound.{messageAt}
-use Rattle.election.specs.System.{noMessage, noLink, unused, messages, holding}
+use Rattle.election.specs.System.{noStation, noMessage, noLink, unused, messages, holding}
 use Rattle.election.specs.Tick.{later, heardLink}
 use Rattle.layout.specs.declared.Layout.{Layout}
 use Rattle.election.specs.declared.Link.{Link}
@@ -32,12 +32,12 @@ use Rattle.election.proofs.Links.{holding-at, holding-rest, holding-used}
 use Rattle.ticks.specs.Sending.{hears}
 use Rattle.ticks.proofs.Quiet.{Before, link-quiet}
 use Rattle.ticks.proofs.Turns.{staying, entryOf, stays, goes, later-where, holding-more, heardLink-turn}
-use Rattle.layout.proofs.Stores.{Wide, part, link-used, link-places, link-is, links-store, withMessages, withUsed, withLinks, Clearing, used-read, places-read, messages-read}
+use Rattle.layout.proofs.Stores.{Wide, part, link-used, link-places, link-is, links-store, withMessages, withUsed, withStations, withLinks, Clearing, used-read, places-read, messages-read}
 
 -- a link in which the first i messages are gone through: those that are not due now stand at the front, `to` of them, and none of them is
 -- due after now and up to a tick
 pub record Packing (now k : ℕ) (s₀ : Layout) (s : Layout) (until to i : ℕ) : Type 0 where
-  pub same : s ≡ withMessages (s .messages) s₀
+  pub same : s ≡ withMessages (s .messages) (withStations (s .stations) s₀)
   pub size : length (s .messages) ≡ 256
   pub others : (j : ℕ) → (j ≡ k → ⊥) → part (s .messages) j ≡ part (s₀ .messages) j
   pub kept : Kept i (staying now (part (s₀ .messages) k)) (entryOf (part (s₀ .messages) k)) (part (s₀ .messages) k) to (part (s .messages) k)
@@ -82,11 +82,11 @@ module _ (now k : ℕ) (s₀ s : Layout) (until to i : ℕ) (a : Packing now k s
       new : getD (part (set (s .messages) (4 * k + to) m) k) to noMessage ≡ m
       new = ap (λ (l : List Message). getD l to noMessage) stored ∙ getD-set-same (part (s .messages) k) to m noMessage (omega (arith, a .front, length-segment 4 noMessage (s .messages) k))
 
-  pub packing-drops : (m : Message) (u to′ : ℕ) (y : Layout) → m ≡ getD (s .messages) (4 * k + i) noMessage → m .due ≡ now → y ≡ s → u ≡ until → to′ ≡ to → Packing now k s₀ y u to′ (i + 1)
-  packing-drops m u to′ y e d g z t =
+  pub packing-drops : (m : Message) (u to′ : ℕ) (xs : List Station) (y : Layout) → m ≡ getD (s .messages) (4 * k + i) noMessage → m .due ≡ now → y ≡ withStations xs s → u ≡ until → to′ ≡ to → Packing now k s₀ y u to′ (i + 1)
+  packing-drops m u to′ xs y e d g z t =
       rw (g, z, t)
       (record {
-        same = a .same;
+        same = ap (withStations xs) (a .same);
         size = a .size;
         others = a .others;
         kept = kept-leaves (a .kept) (subst (λ (x : Message). not (eqb (x .due) now) ≡ false) (e ∙ packing-read) (goes now m d)) refl refl;
@@ -155,11 +155,11 @@ module _ (now k : ℕ) (s₀ s₁ s₂ : Layout) (until to u : ℕ) (a : Packing
           b .high x (omega arith) ∙ ap (λ (l : List Message). getD l x noMessage) (a .kept .list)
           ∙ over-beyond where-is (part (s₀ .messages) k) x noMessage (omega (arith, a .kept .count)) ∙ tail x (omega arith) h ∙ sym (rest x h (omega arith))
 
-  pub kept-stored : (v : ℕ) (y : Layout) → v ≡ to → y ≡ withUsed (set (s₂ .used) k v) s₂ → systemOf y ≡ withLinks (set (systemOf s₀ .links) k (holding staying-on)) (systemOf s₀)
+  pub kept-stored : (v : ℕ) (y : Layout) → v ≡ to → y ≡ withUsed (set (s₂ .used) k v) s₂ → systemOf y ≡ withLinks (set (systemOf s₀ .links) k (holding staying-on)) (systemOf (withStations (s₁ .stations) s₀))
   unfolding holding
   kept-stored v y c g =
       ap systemOf (g ∙ ap (λ (z : Layout). withUsed (set (z .used) k v) (withMessages (s₂ .messages) z)) (b .same ∙ ap (withMessages (s₂ .messages)) (a .same)))
-      ∙ link-stored s₀ k (s₂ .messages) v (holding staying-on) wide hk (c ∙ stay-count) stay-places (λ j ne. b .others j ne ∙ a .others j ne)
+      ∙ link-stored (withStations (s₁ .stations) s₀) k (s₂ .messages) v (holding staying-on) (record { used = wide .used; messages = wide .messages }) hk (c ∙ stay-count) stay-places (λ j ne. b .others j ne ∙ a .others j ne)
 
   pub kept-calm : (t : ℕ) → now < t → t ≤ until → quietLink t (holding staying-on) ≡ true
   kept-calm =
@@ -254,3 +254,14 @@ module _ (me q now : ℕ) (ms : List Message) (x₀ x y : Station) (i : ℕ) (m 
 
   pub heard-down : m .due ≡ now → x .up ≡ false → y ≡ x → Heard me q now ms x₀ y (i + 1)
   heard-down d u g = heard-next me q now ms x₀ x y i m a h e (g ∙ sym (cond-no _ _ (ap (λ b. b && x .up) (eq-eqb (m .due) now d) ∙ u)))
+
+-- stations that are as they were but for the one at place p
+pub record Beside (p : ℕ) (xs ys : List Station) : Type 0 where
+  pub long : length ys ≡ length xs
+  pub others : (j : ℕ) → (j ≡ p → ⊥) → getD ys j noStation ≡ getD xs j noStation
+
+pub beside-none : (p : ℕ) (xs : List Station) → Beside p xs xs
+beside-none p xs = record { long = refl; others = λ j ne. refl }
+
+pub beside-stores : (p : ℕ) (xs ys : List Station) (v : Station) → Beside p xs ys → Beside p xs (set ys p v)
+beside-stores p xs ys v a = record { long = length-set ys p v ∙ a .long; others = λ j ne. getD-set-other ys p j v noStation ne ∙ a .others j ne }

@@ -1,11 +1,13 @@
 -- A tick, as the code goes through it.
 pub mod After
+pub mod Chances
 pub mod Hearing
 pub mod InPlace
 pub mod Quiet
 pub mod Ready
 pub mod Run
 pub mod Sent
+pub mod Silent
 pub mod Taken
 pub mod Turns
 pub mod Whole

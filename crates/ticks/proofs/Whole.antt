@@ -23,7 +23,7 @@ use Rattle.election.proofs.TickSound.{after-few}
 use Rattle.layout.proofs.Stores.{withLinks}
 use Rattle.ticks.specs.Sending.{Ticking, sentOver, sendsNow}
 use Rattle.ticks.proofs.After.{no-sender, unlinked, linked, sendsAt, stationAfter, sentAfter, newLink, linkAfter, sentTo, Mid, Part, part-none}
-use Rattle.ticks.proofs.Hearing.{settledTo}
+use Rattle.ticks.proofs.Hearing.{settledTo, Hearing, endedTo, settled-all}
 use Rattle.ticks.proofs.Ready.{is, sent-at}
 use Rattle.ticks.proofs.Taken.{linkKept, kept-yes, kept-no, Taken, taken-links, taken-calm}
 
@@ -178,31 +178,31 @@ module _ (s : System) (ticking : Ticking s) (held : Held s) (ls : List Link) (lo
         rw (tick-n s)
         (rw (all-of (s .n) (λ k. quietStation t (station (tick s) (k + 1))) station-calm, all-of (s .n) (λ j. allTo (s .n) (λ k. quietLink t (getD (tick s .links) (place (j + 1) (k + 1)) noLink))) (λ j lj. all-of (s .n) (λ k. quietLink t (getD (tick s .links) (place (j + 1) (k + 1)) noLink)) (λ k lk. link-calm j k lj lk))))
 
--- the same as the code counts
-module _ (s : System) (n p until₀ : ℕ) (m : System) (long : length (m .links) ≡ 64) (taken : Taken n (s .tick + 1) s until₀ (m .links) (8 * p)) (zp : p ≡ n) (e : withLinks (s .links) m ≡ settledTo s p) where
+-- the same as the code counts: s₀ is the system after (a), and stations are after (b) from then on
+module _ (s : System) (n q until₀ : ℕ) (s₀ : System) (long : length (s₀ .links) ≡ 64) (taken : Taken n (s .tick + 1) s until₀ (s₀ .links) (8 * q)) (zq : q ≡ n) (h : Hearing s n 0 q s₀) where
   n-high : n ≤ 8
   n-high = omega (arith, taken .size, is s (taken .ticking) .n-high)
 
-  mid-is : withLinks (m .links) (settledTo s (s .n)) ≡ m
-  mid-is = ap (λ k. withLinks (m .links) (settledTo s k)) (taken .size ∙ sym zp) ∙ ap (withLinks (m .links)) (sym e)
+  mid-is : withLinks (s₀ .links) (settledTo s (s .n)) ≡ endedTo n (s .tick + 1) s₀
+  mid-is = settled-all s n q s₀ h zq (taken .size) n-high (taken .held .stations)
 
-  links-kept : (k : ℕ) → k < 64 → getD (m .links) k noLink ≡ linkKept (s .n) (s .tick + 1) s k
-  links-kept = subst (λ n. (k : ℕ) → k < 64 → getD (m .links) k noLink ≡ linkKept n (s .tick + 1) s k) (sym (taken .size)) (taken-links n (s .tick + 1) s until₀ (m .links) (8 * p) taken n-high (ap (λ k. 8 * k) zp))
+  links-kept : (k : ℕ) → k < 64 → getD (s₀ .links) k noLink ≡ linkKept (s .n) (s .tick + 1) s k
+  links-kept = subst (λ n. (k : ℕ) → k < 64 → getD (s₀ .links) k noLink ≡ linkKept n (s .tick + 1) s k) (sym (taken .size)) (taken-links n (s .tick + 1) s until₀ (s₀ .links) (8 * q) taken n-high (ap (λ k. 8 * k) zq))
 
-  pub part-first : Part n (s .tick + 1) m until₀ m 0 0 0
+  pub part-first : Part n (s .tick + 1) (endedTo n (s .tick + 1) s₀) until₀ (endedTo n (s .tick + 1) s₀) 0 0 0
   part-first =
-      part-none n (s .tick + 1) m until₀
-      (subst (λ k. Mid k (s .tick + 1) m) (taken .size) (subst (Mid (s .n) (s .tick + 1)) mid-is (mid-ready s (taken .ticking) (taken .held) (m .links) long links-kept)))
-      (taken-calm n (s .tick + 1) s until₀ (m .links) (8 * p) taken n-high (ap (λ k. 8 * k) zp))
+      part-none n (s .tick + 1) (endedTo n (s .tick + 1) s₀) until₀
+      (subst (λ k. Mid k (s .tick + 1) (endedTo n (s .tick + 1) s₀)) (taken .size) (subst (Mid (s .n) (s .tick + 1)) mid-is (mid-ready s (taken .ticking) (taken .held) (s₀ .links) long links-kept)))
+      (taken-calm n (s .tick + 1) s until₀ (s₀ .links) (8 * q) taken n-high (ap (λ k. 8 * k) zq))
 
-  module _ (r : System) (until q : ℕ) (zq : q ≡ n) (a : Part n (s .tick + 1) m until r q q (8 * q)) where
-    all-parts : Part (s .n) (s .tick + 1) (withLinks (m .links) (settledTo s (s .n))) until r (s .n) (s .n) (8 * s .n)
+  module _ (r : System) (until : ℕ) (a : Part n (s .tick + 1) (endedTo n (s .tick + 1) s₀) until r n n (8 * n)) where
+    all-parts : Part (s .n) (s .tick + 1) (withLinks (s₀ .links) (settledTo s (s .n))) until r (s .n) (s .n) (8 * s .n)
     all-parts =
         subst (λ m. Part (s .n) (s .tick + 1) m until r (s .n) (s .n) (8 * s .n)) (sym mid-is)
-        (subst (λ k. Part k (s .tick + 1) m until r k k (8 * k)) (sym (taken .size)) (subst (λ k. Part n (s .tick + 1) m until r k k (8 * k)) zq a))
+        (subst (λ k. Part k (s .tick + 1) (endedTo n (s .tick + 1) s₀) until r k k (8 * k)) (sym (taken .size)) a)
 
     pub run-tick : atTick until r ≡ atTick until (tick s)
-    run-tick = whole-tick s (taken .ticking) (taken .held) (m .links) long links-kept r (all-parts .same) until
+    run-tick = whole-tick s (taken .ticking) (taken .held) (s₀ .links) long links-kept r (all-parts .same) until
 
     pub run-calm : (t : ℕ) → s .tick + 1 < t → t ≤ until → quietAt t (tick s) ≡ true
-    run-calm t h i = whole-calm s (taken .ticking) (taken .held) (m .links) long links-kept r until all-parts t h i
+    run-calm t h i = whole-calm s (taken .ticking) (taken .held) (s₀ .links) long links-kept r until all-parts t h i

@@ -32,8 +32,8 @@ fn ticks_of(d: u8) -> u32
     d as u32
 }
 
-// The system after t ticks. In a tick each station hears what is due and its timer ends, then those that have a send chance take it;
-// after it the counter goes on to `until`: up to there nothing is due.
+// The system after t ticks. In a tick what is due is heard, sender by sender, past those that have nothing under way; then each timer and
+// each send chance that is due is done; then the counter goes on to `until`: up to there nothing is due.
 pub fn run(t: u32, mut s: Layout) -> Layout
     requires { ⌜ (sound (systemOf s) ≡ true) × (s .ready ≡ true) × (s .tick + t ≤ lastTick) ⌝ }
     ensures { λ r. ⌜ systemOf r ≡ ticks t (systemOf s) ⌝ }
@@ -41,62 +41,81 @@ pub fn run(t: u32, mut s: Layout) -> Layout
     let end = s.tick + t;
     let n = s.n as usize;
     let empty = unused();
+    let mut busy = [false; 8];
+    for q in 0..n {
+        for p in 0..n {
+            if s.used[8 * q + p] != 0 {
+                busy[q] = true;
+            }
+        }
+    }
     while s.tick < end {
         let now = s.tick + 1;
         let mut until = end;
-        for p in 0..n {
-            for q in 0..n {
-                let k = 8 * q + p;
-                let u = count(s.used[k]);
-                if u != 0 {
-                    let mut x = s.stations[p];
-                    let mut to = 0usize;
-                    for i in 0..u {
-                        let m = s.messages[4 * k + i];
-                        if m.due != now {
-                            until = short_of(now, m.due, until);
-                            s.messages[4 * k + to] = m;
-                            to += 1;
-                        } else {
-                            if x.up {
-                                let v = m.counts;
-                                x = hear(p as u8 + 1, q as u8 + 1, v, now, x);
+        for q in 0..n {
+            if busy[q] {
+                let mut more = false;
+                for p in 0..n {
+                    let k = 8 * q + p;
+                    let u = count(s.used[k]);
+                    if u != 0 {
+                        let mut to = 0usize;
+                        for i in 0..u {
+                            let due = s.messages[4 * k + i].due;
+                            if due != now {
+                                until = short_of(now, due, until);
+                                s.messages[4 * k + to] = s.messages[4 * k + i];
+                                to += 1;
+                                more = true;
+                            } else {
+                                if s.stations[p].up {
+                                    let m = s.messages[4 * k + i];
+                                    let v = m.counts;
+                                    s.stations[p] = hear(
+                                        p as u8 + 1,
+                                        q as u8 + 1,
+                                        v,
+                                        now,
+                                        s.stations[p],
+                                    );
+                                }
                             }
                         }
+                        for j in to..u {
+                            s.messages[4 * k + j] = empty;
+                        }
+                        s.used[k] = to as u8;
                     }
-                    for j in to..u {
-                        s.messages[4 * k + j] = empty;
-                    }
-                    s.used[k] = to as u8;
-                    s.stations[p] = x;
                 }
-            }
-            if timer_ends(now, s.stations[p]) {
-                s.stations[p] = expire(p as u8 + 1, s.stations[p]);
+                busy[q] = more;
             }
         }
         for p in 0..n {
-            if sends_now(p as u8 + 1, now, s.stations[p]) {
-                let x = s.stations[p];
-                let counts = x.recovered;
-                for q in 0..n {
-                    let k = 8 * p + q;
-                    let d = ticks_of(s.delays[k]);
-                    if (p != q) & (d != 0) {
-                        let u = count(s.used[k]);
-                        let due = now + d;
-                        s.messages[4 * k + u] = Message {
-                            sent: now,
-                            due,
-                            counts,
-                        };
-                        s.used[k] = s.used[k] + 1;
-                        until = short_of(now, due, until);
-                    }
-                }
-                s.sent[p] = sent_more(s.n, s.sent[p]);
+            if timer_ends(now, s.stations[p]) {
+                s.stations[p] = expire(p as u8 + 1, s.stations[p]);
             }
             if s.stations[p].slot == now {
+                if sends_now(p as u8 + 1, now, s.stations[p]) {
+                    busy[p] = true;
+                    let x = s.stations[p];
+                    let counts = x.recovered;
+                    for q in 0..n {
+                        let k = 8 * p + q;
+                        let d = ticks_of(s.delays[k]);
+                        if (p != q) & (d != 0) {
+                            let u = count(s.used[k]);
+                            let due = now + d;
+                            s.messages[4 * k + u] = Message {
+                                sent: now,
+                                due,
+                                counts,
+                            };
+                            s.used[k] = s.used[k] + 1;
+                            until = short_of(now, due, until);
+                        }
+                    }
+                    s.sent[p] = sent_more(s.n, s.sent[p]);
+                }
                 s.stations[p] = slot(s.period, now, s.stations[p]);
             }
             until = quiet_station(now, s.stations[p], until);

@@ -1,9 +1,12 @@
 -- The function rules::run meets its contract.
 use mathlib.Core.Path.{_≡_, refl, sym, ap, subst, _∙_}
 use mathlib.Core.Logic.{⊎-elim}
+use mathlib.Core.List.{List}
+use mathlib.Core.Bool.{Bool, true, false, true≢false}
 use Prim.Native.Nat.{ℕ, _+_, _-_, _*_, _<_, _≤_}
 use native.Mathlib.Omega.{arith}
-use lib.ListN.{length, getD, length-map, length-set}
+use lib.ListN.{length, set, getD, length-map, length-set}
+use lib.Seq.{getD-set-same}
 use borrow.Author.Needs.{needs}
 use Rattle.lists.proofs.Segment.{length-segment}
 use Rattle.station.specs.Fit.{lastTick}
@@ -11,565 +14,722 @@ use Rattle.station.specs.declared.Station.{Station}
 use Rattle.layout.specs.Layout.{systemOf}
 use Rattle.layout.specs.declared.Layout.{Layout}
 use Rattle.layout.proofs.Full.{counts-owned, held-of}
-use Rattle.layout.proofs.Stores.{Wide, part, length-links, withLinks, Clearing, clearing-none, clearing-turn, used-read}
+use Rattle.layout.proofs.Stores.{Wide, part, length-links, Clearing, clearing-none, clearing-turn, used-read}
 use Rattle.election.specs.Idle.{atTick}
-use Rattle.election.specs.System.{noStation, noMessage}
+use Rattle.election.specs.System.{noStation, noMessage, noLink}
 use Rattle.election.specs.declared.System.{System}
 use Rattle.election.proofs.Soundness.{sound-of}
-use Rattle.ticks.specs.Sending.{sendsNow}
-use Rattle.ticks.proofs.After.{Part, part-station, part-sent, part-n, part-period, part-row, part-rests, part-skips, part-counts, part-silent, part-slots, part-waits}
-use Rattle.ticks.proofs.Hearing.{settledTo, hearing, hearing-first, settled-none, settled-tick, stations-long, hearing-ready, timer-ready, settled-ends, settled-waits}
-use Rattle.ticks.proofs.InPlace.{Packing, packing-none, packing-read, packing-keeps, packing-drops, Heard, heard-first, heard-waits, heard-due, heard-down}
+use Rattle.ticks.proofs.Chances.{Chances, chances-first, chances-station, chances-says, chances-late, chances-n, chances-period, chances-sent, chances-skips, chances-free, chances-sends, chances-done, Turn, turn-ends, turn-stays, turn-sends, turn-rests, turn-slots, turn-waits}
+use Rattle.ticks.proofs.Hearing.{Hearing, hearing-none, hearing-tick, hearing-ready, hearing-row, hearing-rests, timer-ready}
+use Rattle.ticks.proofs.InPlace.{Packing, packing-none, packing-read, packing-keeps, packing-drops, Heard, heard-first, heard-waits, heard-due, heard-down, Beside, beside-none, beside-stores}
 use Rattle.ticks.proofs.Run.{Going, going-first, going-done, going-ticking, going-on}
-use Rattle.ticks.proofs.Sent.{place-free, message-sent}
-use Rattle.ticks.proofs.Taken.{Taken, taken-none, taken-row, taken-few, taken-skips, link-wide, link-taken, link-heard, none-heard}
+use Rattle.ticks.proofs.Silent.{Silent, silent-none, silent-marks, silent-leaves, silent-row, silent-stores, silent-sets, silent-sends, Gone, gone-more, gone-stores}
+use Rattle.ticks.proofs.Taken.{Taken, taken-none, taken-row, taken-rests, none-before, taken-few, taken-skips, link-used-is, link-wide, link-taken, link-heard, none-heard}
 use Rattle.ticks.proofs.Whole.{part-first, run-tick, run-calm}
 use Rattle.ticks.proofs.rules.run.Statement.{statement}
 use Rattle.ticks.proofs.rules.run.Tie as tie
 
-abbrev Inv-loop4 : tie.InvT-loop4
-Inv-loop4 t s₀ end n empty now until₀ p q k u x₀ to₀ i₀ s until x to i = (i ≤ u) × (u ≤ 4) × (now ≤ until) × (until ≤ until₀) × (to ≤ i) × Packing now k s₀ s until to i × Heard (p + 1) (q + 1) now (part (s₀ .messages) k) x₀ x i
-
-abbrev μ-loop4 : tie.MeasureT-loop4
-μ-loop4 t s₀ end n empty now until₀ p q k u x₀ to₀ i₀ s until x to i = u - i
-
-abbrev Inv-loop5 : tie.InvT-loop5
-Inv-loop5 t s₀ end n empty now until p q k u x to j₀ s j = (to ≤ j) × (j ≤ u) × (u ≤ 4) × Clearing k s₀ s to j
-
-abbrev μ-loop5 : tie.MeasureT-loop5
-μ-loop5 t s₀ end n empty now until p q k u x to j₀ s j = u - j
-
-abbrev Inv-loop3 : tie.InvT-loop3
-Inv-loop3 t s₀ end n empty now until₀ p q₀ s until q = (q ≤ n) × (now ≤ until) × (until ≤ end) × Wide s × ((r : System) → Taken n now r until₀ (systemOf s₀ .links) (8 * p) → Taken n now r until (systemOf s .links) (8 * p + q) × (withLinks (r .links) (systemOf s) ≡ hearing (withLinks (r .links) (systemOf s₀)) p q))
-
-abbrev μ-loop3 : tie.MeasureT-loop3
-μ-loop3 t s₀ end n empty now until₀ p q₀ s until q = n - q
-
 abbrev Inv-loop2 : tie.InvT-loop2
-Inv-loop2 t s₀ end n empty now until₀ p₀ s until p = (p ≤ n) × (now ≤ until) × (until ≤ end) × Wide s × Taken n now (systemOf s₀) until (systemOf s .links) (8 * p) × (withLinks (systemOf s₀ .links) (systemOf s) ≡ settledTo (systemOf s₀) p)
+Inv-loop2 t s end n empty busy₀ q p₀ busy p = (p ≤ n) × Silent n (s .used) busy (8 * q + p)
 
 abbrev μ-loop2 : tie.MeasureT-loop2
-μ-loop2 t s₀ end n empty now until₀ p₀ s until p = n - p
-
-abbrev Inv-loop7 : tie.InvT-loop7
-Inv-loop7 t s₀ end n empty now until₀ p counts q₀ s until q = (q ≤ n) × (now ≤ until) × (until ≤ end) × Wide s × ((m : System) → Part n now m until₀ (systemOf s₀) p p (8 * p) → Part n now m until (systemOf s) p p (8 * p + q))
-
-abbrev μ-loop7 : tie.MeasureT-loop7
-μ-loop7 t s₀ end n empty now until₀ p counts q₀ s until q = n - q
-
-abbrev Inv-loop6 : tie.InvT-loop6
-Inv-loop6 t s₀ end n empty now until₀ p₀ s until p = (p ≤ n) × (now ≤ until) × (until ≤ end) × Wide s × Part n now (systemOf s₀) until (systemOf s) p p (8 * p)
-
-abbrev μ-loop6 : tie.MeasureT-loop6
-μ-loop6 t s₀ end n empty now until₀ p₀ s until p = n - p
+μ-loop2 t s end n empty busy₀ q p₀ busy p = n - p
 
 abbrev Inv-loop : tie.InvT-loop
-Inv-loop t s₀ end n empty s = (n ≤ 8) × (end ≤ lastTick) × (s .tick ≤ end) × Going t (systemOf s₀) (systemOf s) × Wide s
+Inv-loop t s end n empty busy₀ q₀ busy q = (n ≤ 8) × (q ≤ n) × Silent n (s .used) busy (8 * q)
 
 abbrev μ-loop : tie.MeasureT-loop
-μ-loop t s₀ end n empty s = end - s .tick
+μ-loop t s end n empty busy₀ q₀ busy q = n - q
 
-loop-holds : tie.Need-loop-holds Inv-loop4 μ-loop4 Inv-loop5 μ-loop5 Inv-loop3 μ-loop3 Inv-loop2 μ-loop2 Inv-loop7 μ-loop7 Inv-loop6 μ-loop6 Inv-loop μ-loop
+abbrev Inv-loop6 : tie.InvT-loop6
+Inv-loop6 t s₀ end n empty busy now until₀ q more₀ p k u to₀ i₀ s until more to i =
+    (i ≤ u) × (u ≤ 4) × (now ≤ until) × (until ≤ until₀) × (to ≤ i) × Packing now k s₀ s until to i × Heard (p + 1) (q + 1) now (part (s₀ .messages) k) (getD (s₀ .stations) p noStation) (getD (s .stations) p noStation) i × Beside p (s₀ .stations) (s .stations)
+    × (more ≡ false → (more₀ ≡ false) × (to ≡ 0))
+
+abbrev μ-loop6 : tie.MeasureT-loop6
+μ-loop6 t s₀ end n empty busy now until₀ q more₀ p k u to₀ i₀ s until more to i = u - i
+
+abbrev Inv-loop7 : tie.InvT-loop7
+Inv-loop7 t s₀ end n empty busy now until q more p k u to j₀ s j = (to ≤ j) × (j ≤ u) × (u ≤ 4) × Clearing k s₀ s to j
+
+abbrev μ-loop7 : tie.MeasureT-loop7
+μ-loop7 t s₀ end n empty busy now until q more p k u to j₀ s j = u - j
+
+abbrev Inv-loop5 : tie.InvT-loop5
+Inv-loop5 t s₀ end n empty busy now until₀ q more₀ p₀ s until more p =
+    (p ≤ n) × (now ≤ until) × (until ≤ end) × Wide s × Silent n (s .used) busy (8 * n) × Gone (s .used) q p more
+    × ((r : System) → Taken n now r until₀ (systemOf s₀ .links) (8 * q) → Hearing r n 0 q (systemOf s₀) → Taken n now r until (systemOf s .links) (8 * q + p) × Hearing r n p q (systemOf s))
+
+abbrev μ-loop5 : tie.MeasureT-loop5
+μ-loop5 t s₀ end n empty busy now until₀ q more₀ p₀ s until more p = n - p
+
+abbrev Inv-loop4 : tie.InvT-loop4
+Inv-loop4 t s₀ end n empty busy₀ now until₀ q₀ s busy until q =
+    (q ≤ n) × (now ≤ until) × (until ≤ end) × Wide s × Taken n now (systemOf s₀) until (systemOf s .links) (8 * q) × Hearing (systemOf s₀) n 0 q (systemOf s) × Silent n (s .used) busy (8 * n)
+
+abbrev μ-loop4 : tie.MeasureT-loop4
+μ-loop4 t s₀ end n empty busy₀ now until₀ q₀ s busy until q = n - q
+
+abbrev Inv-loop9 : tie.InvT-loop9
+Inv-loop9 t s₀ end n empty busy now until₀ p counts q₀ s until q =
+    (q ≤ n) × (now ≤ until) × (until ≤ end) × Wide s × Silent n (s .used) busy (8 * n) × (getD busy p false ≡ true)
+    × ((σ : System) → Chances n now σ until₀ s₀ (p + 1) p p (8 * p) → Chances n now σ until s (p + 1) p p (8 * p + q))
+
+abbrev μ-loop9 : tie.MeasureT-loop9
+μ-loop9 t s₀ end n empty busy now until₀ p counts q₀ s until q = n - q
+
+abbrev Inv-loop8 : tie.InvT-loop8
+Inv-loop8 t s₀ end n empty busy₀ now until₀ p₀ s busy until p = (p ≤ n) × (now ≤ until) × Turn n now (systemOf s₀) end until s busy p p p (8 * p)
+
+abbrev μ-loop8 : tie.MeasureT-loop8
+μ-loop8 t s₀ end n empty busy₀ now until₀ p₀ s busy until p = n - p
+
+abbrev Inv-loop3 : tie.InvT-loop3
+Inv-loop3 t s₀ end n empty busy₀ s busy = (n ≤ 8) × (end ≤ lastTick) × (s .tick ≤ end) × Going t (systemOf s₀) (systemOf s) × Wide s × Silent n (s .used) busy (8 * n)
+
+abbrev μ-loop3 : tie.MeasureT-loop3
+μ-loop3 t s₀ end n empty busy₀ s busy = end - s .tick
+
+loop-holds : tie.Need-loop-holds Inv-loop2 μ-loop2 Inv-loop μ-loop Inv-loop6 μ-loop6 Inv-loop7 μ-loop7 Inv-loop5 μ-loop5 Inv-loop4 μ-loop4 Inv-loop9 μ-loop9 Inv-loop8 μ-loop8 Inv-loop3 μ-loop3
 loop-holds c =
-    let s = c .before .args .t2 in
-    let f = sound-of (systemOf s) (c .before .pre .0) (c .before .pre .1) in
-    let stations : length (s .stations) ≡ 8 = simp length-map at (c .before .good .1 .0 .1 .1 .1 .1 .1 .1 .0 .1 .0 .1) in
-    let sent : length (s .sent) ≡ 8 = simp length-map at (c .before .good .1 .0 .1 .1 .1 .1 .1 .1 .1 .0 .1 .0 .1) in
-    let owned = c .before .good .1 .0 .1 .1 .1 .1 .1 .1 .1 .1 .1 .1 .0 in
-    let size : length (s .messages) ≡ 256 = simp length-map at (owned .1 .0 .1) in
-    let held = held-of s stations sent (λ j h. counts-owned (s .messages) (owned .0) (owned .1 .1) j (omega arith)) (c .before .pre .0) (c .before .pre .1) in
-    (f .n-high, c .before .pre .2, omega arith, going-first _ _ (c .before .pre .0) (c .before .pre .1) held (c .before .pre .2), record { used = simp length-map at (c .before .good .1 .0 .1 .1 .1 .1 .1 .1 .1 .1 .1 .0 .1 .0 .1); messages = size })
+    let f = sound-of (systemOf (c .before .args .t2)) (c .before .pre .0) (c .before .pre .1) in
+    (f .n-high, search needs, silent-none _ _)
 
-loop2-holds : tie.Need-loop2-holds Inv-loop4 μ-loop4 Inv-loop5 μ-loop5 Inv-loop3 μ-loop3 Inv-loop2 μ-loop2 Inv-loop7 μ-loop7 Inv-loop6 μ-loop6 Inv-loop μ-loop
+loop2-holds : tie.Need-loop2-holds Inv-loop2 μ-loop2 Inv-loop μ-loop Inv-loop6 μ-loop6 Inv-loop7 μ-loop7 Inv-loop5 μ-loop5 Inv-loop4 μ-loop4 Inv-loop9 μ-loop9 Inv-loop8 μ-loop8 Inv-loop3 μ-loop3
 loop2-holds c =
-    let i = c .before .loop .inv in
-    (search needs, search needs, search needs, i .4, taken-none _ _ _ _ (going-ticking _ _ _ (i .3) (c .loop-test .taken)) (i .3 .held) (i .3 .size), settled-none _)
+    let z : 8 * c .before .loop .q + 0 ≡ 8 * c .before .loop .q = omega arith in
+    (search needs, rw z (c .before .loop .inv .2))
 
-loop3-holds : tie.Need-loop3-holds Inv-loop4 μ-loop4 Inv-loop5 μ-loop5 Inv-loop3 μ-loop3 Inv-loop2 μ-loop2 Inv-loop7 μ-loop7 Inv-loop6 μ-loop6 Inv-loop μ-loop
-loop3-holds c =
+loop2-again : tie.Need-loop2-again Inv-loop2 μ-loop2 Inv-loop μ-loop Inv-loop6 μ-loop6 Inv-loop7 μ-loop7 Inv-loop5 μ-loop5 Inv-loop4 μ-loop4 Inv-loop9 μ-loop9 Inv-loop8 μ-loop8 Inv-loop3 μ-loop3
+loop2-again c =
+    let n = c .before .before .before .before .before .before .before .args .t2 .n in
+    let i = c .before .before .before .before .before .loop .inv in
+    let i2 = c .before .before .before .loop2 .inv in
+    let hq : c .before .before .before .before .before .loop .q < n = omega (arith, c .before .before .before .before .loop-test .taken) in
+    let hp : c .before .before .before .loop2 .p < n = omega (arith, c .before .before .loop2-test .taken) in
+    ⊎-elim
+    (λ w. (omega arith, silent-marks n _ _ _ (i .0) (i2 .1) (c .before .before .before .before .before .loop .q) (c .before .before .before .loop2 .p) hq hp refl _ (w .1)))
+    (λ w. (omega arith, silent-leaves n _ _ _ (i .0) (i2 .1) (c .before .before .before .before .before .loop .q) (c .before .before .before .loop2 .p) hq hp refl _ (w .1) (w .0 .left)))
+    (c .if1 .came)
+
+loop-again : tie.Need-loop-again Inv-loop2 μ-loop2 Inv-loop μ-loop Inv-loop6 μ-loop6 Inv-loop7 μ-loop7 Inv-loop5 μ-loop5 Inv-loop4 μ-loop4 Inv-loop9 μ-loop9 Inv-loop8 μ-loop8 Inv-loop3 μ-loop3
+loop-again c =
+    let n = c .before .before .before .before .before .args .t2 .n in
+    let i = c .before .before .before .loop .inv in
     let i2 = c .before .loop2 .inv in
-    let z : 8 * c .before .loop2 .p + 0 ≡ 8 * c .before .loop2 .p = omega arith in
-    (search needs, i2 .1, i2 .2, i2 .3, λ r a. (rw z a, hearing-first _ _))
+    let zp : c .before .loop2 .p ≡ n = omega (arith, i2 .0, c .loop2-test .left) in
+    (i .0, search needs, silent-row n _ _ _ (i .0) (i2 .1) (c .before .before .before .loop .q) (ap (λ (j : ℕ). 8 * c .before .before .before .loop .q + j) zp))
 
-loop4-holds : tie.Need-loop4-holds Inv-loop4 μ-loop4 Inv-loop5 μ-loop5 Inv-loop3 μ-loop3 Inv-loop2 μ-loop2 Inv-loop7 μ-loop7 Inv-loop6 μ-loop6 Inv-loop μ-loop
+loop3-holds : tie.Need-loop3-holds Inv-loop2 μ-loop2 Inv-loop μ-loop Inv-loop6 μ-loop6 Inv-loop7 μ-loop7 Inv-loop5 μ-loop5 Inv-loop4 μ-loop4 Inv-loop9 μ-loop9 Inv-loop8 μ-loop8 Inv-loop3 μ-loop3
+loop3-holds c =
+    let s = c .before .before .before .args .t2 in
+    let i = c .before .loop .inv in
+    let stations : length (s .stations) ≡ 8 = simp length-map at (c .before .before .before .good .1 .0 .1 .1 .1 .1 .1 .1 .0 .1 .0 .1) in
+    let sent : length (s .sent) ≡ 8 = simp length-map at (c .before .before .before .good .1 .0 .1 .1 .1 .1 .1 .1 .1 .0 .1 .0 .1) in
+    let owned = c .before .before .before .good .1 .0 .1 .1 .1 .1 .1 .1 .1 .1 .1 .1 .0 in
+    let size : length (s .messages) ≡ 256 = simp length-map at (owned .1 .0 .1) in
+    let held = held-of s stations sent (λ j h. counts-owned (s .messages) (owned .0) (owned .1 .1) j (omega arith)) (c .before .before .before .pre .0) (c .before .before .before .pre .1) in
+    let zq : c .before .loop .q ≡ s .n = omega (arith, i .1, c .loop-test .left) in
+    (i .0, c .before .before .before .pre .2, omega arith, going-first _ _ (c .before .before .before .pre .0) (c .before .before .before .pre .1) held (c .before .before .before .pre .2), record { used = simp length-map at (c .before .before .before .good .1 .0 .1 .1 .1 .1 .1 .1 .1 .1 .1 .0 .1 .0 .1); messages = size }, subst (λ (j : ℕ). Silent (s .n) (s .used) (c .before .loop .busy) (8 * j)) zq (i .2))
+
+loop4-holds : tie.Need-loop4-holds Inv-loop2 μ-loop2 Inv-loop μ-loop Inv-loop6 μ-loop6 Inv-loop7 μ-loop7 Inv-loop5 μ-loop5 Inv-loop4 μ-loop4 Inv-loop9 μ-loop9 Inv-loop8 μ-loop8 Inv-loop3 μ-loop3
 loop4-holds c =
-    let i = c .before .before .before .before .before .before .before .before .before .loop .inv in
-    let r = systemOf (c .before .before .before .before .before .before .before .before .before .loop .s) in
-    let n = c .before .before .before .before .before .before .before .before .before .before .before .args .t2 .n in
-    let now = c .before .before .before .before .before .before .before .before .before .loop .s .tick + 1 in
-    let p = c .before .before .before .before .before .before .before .loop2 .p in
-    let i2 = c .before .before .before .before .before .before .before .loop2 .inv in
-    let q = c .before .before .before .before .before .loop3 .q in
-    let x = c .before .before .before .before .before .loop3 .s in
-    let i3 = c .before .before .before .before .before .loop3 .inv in
-    let taken = i3 .4 r (i2 .4) .0 in
-    let hp : p < n = omega (arith, c .before .before .before .before .before .before .loop2-test .taken) in
+    let i = c .before .loop3 .inv in
+    (search needs, search needs, search needs, i .4, taken-none _ _ _ _ (going-ticking _ _ _ (i .3) (c .loop3-test .taken)) (i .3 .held) (i .3 .size), hearing-none _ _ (i .3 .held .stations), i .5)
+
+loop5-holds : tie.Need-loop5-holds Inv-loop2 μ-loop2 Inv-loop μ-loop Inv-loop6 μ-loop6 Inv-loop7 μ-loop7 Inv-loop5 μ-loop5 Inv-loop4 μ-loop4 Inv-loop9 μ-loop9 Inv-loop8 μ-loop8 Inv-loop3 μ-loop3
+loop5-holds c =
+    let i4 = c .before .before .loop4 .inv in
+    let z : 8 * c .before .before .loop4 .q + 0 ≡ 8 * c .before .before .loop4 .q = omega arith in
+    (search needs, i4 .1, i4 .2, i4 .3, i4 .6, λ e j h. absurd (omega arith), λ r a b. (rw z a, b))
+
+loop6-holds : tie.Need-loop6-holds Inv-loop2 μ-loop2 Inv-loop μ-loop Inv-loop6 μ-loop6 Inv-loop7 μ-loop7 Inv-loop5 μ-loop5 Inv-loop4 μ-loop4 Inv-loop9 μ-loop9 Inv-loop8 μ-loop8 Inv-loop3 μ-loop3
+loop6-holds c =
+    let i = c .before .before .before .before .before .before .before .before .before .loop3 .inv in
+    let r = systemOf (c .before .before .before .before .before .before .before .before .before .loop3 .s) in
+    let n = c .before .before .before .before .before .before .before .before .before .before .before .before .before .args .t2 .n in
+    let now = c .before .before .before .before .before .before .before .before .before .loop3 .s .tick + 1 in
+    let q = c .before .before .before .before .before .before .before .loop4 .q in
+    let i4 = c .before .before .before .before .before .before .before .loop4 .inv in
+    let p = c .before .before .before .before .loop5 .p in
+    let x = c .before .before .before .before .loop5 .s in
+    let i5 = c .before .before .before .before .loop5 .inv in
+    let taken = i5 .6 r (i4 .4) (i4 .5) .0 in
+    let hq : q < n = omega (arith, c .before .before .before .before .before .before .loop4-test .taken) in
+    let hp : p < n = omega (arith, c .before .before .before .loop5-test .taken) in
     let k = 8 * q + p in
-    let hq : q < n = omega (arith, c .before .before .before .before .loop3-test .taken) in
     let hk : k < 64 = omega (arith, i .0, hp, hq) in
-    (search needs, omega (arith, taken-few n now r _ _ p q (i .0) hp hq taken, used-read x k hk, c .before .before .count .ensures), i3 .1, omega arith, omega arith, packing-none _ _ _ _ (i3 .3), heard-first _ _ _ _ _)
+    (search needs, omega (arith, taken-few n now r _ _ p q (i .0) hp hq taken, used-read x k hk, c .before .count .ensures), i5 .1, omega arith, omega arith, packing-none _ _ _ _ (i5 .3), heard-first _ _ _ _ _, beside-none _ _, λ e. (e, refl))
 
-hear-requires : tie.Need-hear-requires Inv-loop4 μ-loop4 Inv-loop5 μ-loop5 Inv-loop3 μ-loop3 Inv-loop2 μ-loop2 Inv-loop7 μ-loop7 Inv-loop6 μ-loop6 Inv-loop μ-loop
+hear-requires : tie.Need-hear-requires Inv-loop2 μ-loop2 Inv-loop μ-loop Inv-loop6 μ-loop6 Inv-loop7 μ-loop7 Inv-loop5 μ-loop5 Inv-loop4 μ-loop4 Inv-loop9 μ-loop9 Inv-loop8 μ-loop8 Inv-loop3 μ-loop3
 hear-requires c κs =
-    let i = c .before .before .before .before .before .before .before .before .before .before .before .before .before .before .before .before .loop .inv in
-    let r = systemOf (c .before .before .before .before .before .before .before .before .before .before .before .before .before .before .before .before .loop .s) in
-    let n = c .before .before .before .before .before .before .before .before .before .before .before .before .before .before .before .before .before .before .args .t2 .n in
-    let p = c .before .before .before .before .before .before .before .before .before .before .before .before .before .before .loop2 .p in
-    let i2 = c .before .before .before .before .before .before .before .before .before .before .before .before .before .before .loop2 .inv in
-    let settled = i2 .5 in
-    let long : p < length (r .stations) = omega (arith, i .3 .held .stations, i .0, c .before .before .before .before .before .before .before .before .before .before .before .before .before .loop2-test .taken) in
-    let q = c .before .before .before .before .before .before .before .before .before .before .before .before .loop3 .q in
-    let x = c .before .before .before .before .before .before .before .before .before .before .before .before .loop3 .s in
-    let i3 = c .before .before .before .before .before .before .before .before .before .before .before .before .loop3 .inv in
-    let taken = i3 .4 r (i2 .4) .0 in
-    let so = i3 .4 r (i2 .4) .1 in
-    let ticking = going-ticking _ _ r (i .3) (c .before .before .before .before .before .before .before .before .before .before .before .before .before .before .before .loop-test .taken) in
-    let hp′ : p < r .n = omega (arith, i .3 .size) in
+    let i = c .before .before .before .before .before .before .before .before .before .before .before .before .before .before .before .before .loop3 .inv in
+    let r = systemOf (c .before .before .before .before .before .before .before .before .before .before .before .before .before .before .before .before .loop3 .s) in
+    let n = c .before .before .before .before .before .before .before .before .before .before .before .before .before .before .before .before .before .before .before .before .args .t2 .n in
+    let q = c .before .before .before .before .before .before .before .before .before .before .before .before .before .before .loop4 .q in
+    let i4 = c .before .before .before .before .before .before .before .before .before .before .before .before .before .before .loop4 .inv in
+    let p = c .before .before .before .before .before .before .before .before .before .before .before .loop5 .p in
+    let x = c .before .before .before .before .before .before .before .before .before .before .before .loop5 .s in
+    let i5 = c .before .before .before .before .before .before .before .before .before .before .before .loop5 .inv in
+    let taken = i5 .6 r (i4 .4) (i4 .5) .0 in
+    let so = i5 .6 r (i4 .4) (i4 .5) .1 in
+    let ticking = going-ticking _ _ r (i .3) (c .before .before .before .before .before .before .before .before .before .before .before .before .before .before .before .loop3-test .taken) in
     let hq′ : q < r .n = omega (arith, i .3 .size) in
-    let ready = hearing-ready r _ p settled long (withLinks (r .links) (systemOf x)) q so ticking hp′ hq′ in
-    (ready .3, rw (c .before .before .before .before .before .before .loop4 .inv .6 .timeouts) (ready .4))
+    let hp : p < n = omega (arith, c .before .before .before .before .before .before .before .before .before .before .loop5-test .taken) in
+    hearing-ready r n p q (systemOf x) so ticking hp (sym (i .3 .size)) hq′ (getD (c .before .before .before .before .before .before .loop6 .s .stations) p noStation) (c .before .before .before .before .before .before .loop6 .inv .6 .timeouts)
 
-loop4-again : tie.Need-loop4-again Inv-loop4 μ-loop4 Inv-loop5 μ-loop5 Inv-loop3 μ-loop3 Inv-loop2 μ-loop2 Inv-loop7 μ-loop7 Inv-loop6 μ-loop6 Inv-loop μ-loop
-loop4-again c =
-    let i4 = c .before .before .before .before .loop4 .inv in
-    let now = c .before .before .before .before .before .before .before .before .before .before .before .before .before .before .loop .s .tick + 1 in
-    let p = c .before .before .before .before .before .before .before .before .before .before .before .before .loop2 .p in
-    let q = c .before .before .before .before .before .before .before .before .before .before .loop3 .q in
-    let x = c .before .before .before .before .before .before .before .before .before .before .loop3 .s in
+loop6-again : tie.Need-loop6-again Inv-loop2 μ-loop2 Inv-loop μ-loop Inv-loop6 μ-loop6 Inv-loop7 μ-loop7 Inv-loop5 μ-loop5 Inv-loop4 μ-loop4 Inv-loop9 μ-loop9 Inv-loop8 μ-loop8 Inv-loop3 μ-loop3
+loop6-again c =
+    let i = c .before .before .before .before .before .before .before .before .before .before .before .before .loop3 .inv in
+    let r = systemOf (c .before .before .before .before .before .before .before .before .before .before .before .before .loop3 .s) in
+    let n = c .before .before .before .before .before .before .before .before .before .before .before .before .before .before .before .before .args .t2 .n in
+    let now = c .before .before .before .before .before .before .before .before .before .before .before .before .loop3 .s .tick + 1 in
+    let q = c .before .before .before .before .before .before .before .before .before .before .loop4 .q in
+    let i4 = c .before .before .before .before .before .before .before .before .before .before .loop4 .inv in
+    let p = c .before .before .before .before .before .before .before .loop5 .p in
+    let x = c .before .before .before .before .before .before .before .loop5 .s in
+    let i5 = c .before .before .before .before .before .before .before .loop5 .inv in
+    let taken = i5 .6 r (i4 .4) (i4 .5) .0 in
+    let so = i5 .6 r (i4 .4) (i4 .5) .1 in
+    let hq : q < n = omega (arith, c .before .before .before .before .before .before .before .before .before .loop4-test .taken) in
+    let hp : p < n = omega (arith, c .before .before .before .before .before .before .loop5-test .taken) in
     let k = 8 * q + p in
-    let j = c .before .before .before .before .loop4 .i in
-    let m = getD (c .before .before .before .before .loop4 .s .messages) (4 * k + j) noMessage in
-    let hk : k < 64 = omega (arith, c .before .before .before .before .before .before .before .before .before .before .before .before .before .before .loop .inv .0, c .before .before .before .before .before .before .before .before .before .before .before .loop2-test .taken, c .before .before .before .before .before .before .before .before .before .loop3-test .taken) in
-    let hj : j < 4 = omega (arith, i4 .1, c .before .before .before .loop4-test .taken) in
+    let hk : k < 64 = omega (arith, i .0, hp, hq) in
+    let i6 = c .before .before .loop6 .inv in
+    let s = c .before .before .loop6 .s in
+    let j = c .before .before .loop6 .i in
+    let m = getD (s .messages) (4 * k + j) noMessage in
+    let hj : j < 4 = omega (arith, i6 .1, c .before .loop6-test .taken) in
     let hl : j < length (part (x .messages) k) = omega (arith, hj, length-segment 4 noMessage (x .messages) k) in
-    let old = packing-read now k x _ _ _ _ (i4 .5) hk hj in
+    let old = packing-read now k x _ _ _ _ (i6 .5) hk hj in
+    let long : p < length (s .stations) = omega (arith, i6 .7 .long, so .long, hp, i .0) in
     ⊎-elim
     (λ w. (
-      omega (arith, c .before .before .before .loop4-test .taken),
-      i4 .1,
-      rw (w .3) (w .1 .ensures .0),
-      omega (arith, w .3, w .1 .ensures .1, i4 .3),
-      omega (arith, w .5, i4 .4),
-      packing-keeps _ k _ _ _ _ _ (i4 .5) hk hj _ _ _ _ _ refl (w .0 .taken) (w .1 .ensures .1) (w .1 .ensures .2) (w .2) (w .3) (w .5),
-      heard-waits (p + 1) (q + 1) now _ _ _ _ j m (i4 .6) hl old (w .0 .taken) (w .4),
+      omega (arith, c .before .loop6-test .taken),
+      i6 .1,
+      rw (w .4) (w .1 .ensures .0),
+      omega (arith, w .4, w .1 .ensures .1, i6 .3),
+      omega (arith, w .6, i6 .4),
+      packing-keeps _ k _ _ _ _ _ (i6 .5) hk hj _ _ _ _ _ refl (w .0 .taken) (w .1 .ensures .1) (w .1 .ensures .2) (w .3) (w .4) (w .6),
+      heard-waits (p + 1) (q + 1) now _ _ _ _ j m (i6 .6) hl old (w .0 .taken) (ap (λ (z : Layout). getD (z .stations) p noStation) (w .3)),
+      subst (λ (z : Layout). Beside p (x .stations) (z .stations)) (sym (w .3)) (i6 .7),
+      λ e. absurd (true≢false (sym (w .5) ∙ e)),
     ))
     (λ v. ⊎-elim
     (λ w. (
-      omega (arith, c .before .before .before .loop4-test .taken),
-      i4 .1,
-      rw (w .5) (i4 .2),
-      omega (arith, w .5, i4 .3),
-      omega (arith, w .7, i4 .4),
-      packing-drops _ k _ _ _ _ _ (i4 .5) hk hj _ _ _ _ refl (w .0 .left) (w .4) (w .5) (w .7),
-      heard-due (p + 1) (q + 1) now _ _ _ _ j m (i4 .6) hl old (w .0 .left) (w .1 .taken) (w .6 ∙ w .3 .ensures),
+      omega (arith, c .before .loop6-test .taken),
+      i6 .1,
+      rw (w .7) (i6 .2),
+      omega (arith, w .7, i6 .3),
+      omega (arith, w .9, i6 .4),
+      packing-drops _ k _ _ _ _ _ (i6 .5) hk hj _ _ _ _ _ refl (w .0 .left) (w .6) (w .7) (w .9),
+      heard-due (p + 1) (q + 1) now _ _ _ _ j m (i6 .6) hl old (w .0 .left) (w .1 .taken) (ap (λ (z : Layout). getD (z .stations) p noStation) (w .6) ∙ getD-set-same (s .stations) p _ noStation long ∙ w .5 .ensures),
+      subst (λ (z : Layout). Beside p (x .stations) (z .stations)) (sym (w .6)) (beside-stores p _ _ _ (i6 .7)),
+      λ e. (i6 .8 (sym (w .8) ∙ e) .0, w .9 ∙ i6 .8 (sym (w .8) ∙ e) .1),
     ))
     (λ w. (
-      omega (arith, c .before .before .before .loop4-test .taken),
-      i4 .1,
-      rw (w .3) (i4 .2),
-      omega (arith, w .3, i4 .3),
-      omega (arith, w .5, i4 .4),
-      packing-drops _ k _ _ _ _ _ (i4 .5) hk hj _ _ _ _ refl (w .0 .left) (w .2) (w .3) (w .5),
-      heard-down (p + 1) (q + 1) now _ _ _ _ j m (i4 .6) hl old (w .0 .left) (w .1 .left) (w .4),
+      omega (arith, c .before .loop6-test .taken),
+      i6 .1,
+      rw (w .3) (i6 .2),
+      omega (arith, w .3, i6 .3),
+      omega (arith, w .5, i6 .4),
+      packing-drops _ k _ _ _ _ _ (i6 .5) hk hj _ _ _ (s .stations) _ refl (w .0 .left) (w .2) (w .3) (w .5),
+      heard-down (p + 1) (q + 1) now _ _ _ _ j m (i6 .6) hl old (w .0 .left) (w .1 .left) (ap (λ (z : Layout). getD (z .stations) p noStation) (w .2)),
+      subst (λ (z : Layout). Beside p (x .stations) (z .stations)) (sym (w .2)) (i6 .7),
+      λ e. (i6 .8 (sym (w .4) ∙ e) .0, w .5 ∙ i6 .8 (sym (w .4) ∙ e) .1),
     ))
     v)
-    (c .if2 .came)
+    (c .if4 .came)
 
-loop5-holds : tie.Need-loop5-holds Inv-loop4 μ-loop4 Inv-loop5 μ-loop5 Inv-loop3 μ-loop3 Inv-loop2 μ-loop2 Inv-loop7 μ-loop7 Inv-loop6 μ-loop6 Inv-loop μ-loop
-loop5-holds c =
-    let i4 = c .before .loop4 .inv in
-    (omega arith, omega (arith, i4 .0, i4 .4), i4 .1, clearing-none _ _ _ (i4 .5 .size))
+loop7-holds : tie.Need-loop7-holds Inv-loop2 μ-loop2 Inv-loop μ-loop Inv-loop6 μ-loop6 Inv-loop7 μ-loop7 Inv-loop5 μ-loop5 Inv-loop4 μ-loop4 Inv-loop9 μ-loop9 Inv-loop8 μ-loop8 Inv-loop3 μ-loop3
+loop7-holds c =
+    let i6 = c .before .loop6 .inv in
+    (omega arith, omega (arith, i6 .0, i6 .4), i6 .1, clearing-none _ _ _ (i6 .5 .size))
 
-loop5-again : tie.Need-loop5-again Inv-loop4 μ-loop4 Inv-loop5 μ-loop5 Inv-loop3 μ-loop3 Inv-loop2 μ-loop2 Inv-loop7 μ-loop7 Inv-loop6 μ-loop6 Inv-loop μ-loop
+loop7-again : tie.Need-loop7-again Inv-loop2 μ-loop2 Inv-loop μ-loop Inv-loop6 μ-loop6 Inv-loop7 μ-loop7 Inv-loop5 μ-loop5 Inv-loop4 μ-loop4 Inv-loop9 μ-loop9 Inv-loop8 μ-loop8 Inv-loop3 μ-loop3
+loop7-again c =
+    let i7 = c .before .loop7 .inv in
+    let k = 8 * c .before .before .before .before .before .before .before .before .before .before .before .loop4 .q + c .before .before .before .before .before .before .before .before .loop5 .p in
+    let hk : k < 64 = omega (arith, c .before .before .before .before .before .before .before .before .before .before .before .before .before .loop3 .inv .0, c .before .before .before .before .before .before .before .before .before .before .loop4-test .taken, c .before .before .before .before .before .before .before .loop5-test .taken) in
+    let hj : c .before .loop7 .j < 4 = omega (arith, i7 .2, c .loop7-test .taken) in
+    (omega (arith, i7 .0), omega (arith, c .loop7-test .taken), i7 .2, clearing-turn k _ _ _ _ (i7 .3) hk hj (i7 .0) _ _ (c .before .before .before .before .before .before .before .before .before .before .before .before .before .before .before .before .unused .ensures) refl)
+
+loop5-again : tie.Need-loop5-again Inv-loop2 μ-loop2 Inv-loop μ-loop Inv-loop6 μ-loop6 Inv-loop7 μ-loop7 Inv-loop5 μ-loop5 Inv-loop4 μ-loop4 Inv-loop9 μ-loop9 Inv-loop8 μ-loop8 Inv-loop3 μ-loop3
 loop5-again c =
-    let i5 = c .before .loop5 .inv in
-    let k = 8 * c .before .before .before .before .before .before .before .before .before .loop3 .q + c .before .before .before .before .before .before .before .before .before .before .before .loop2 .p in
-    let hk : k < 64 = omega (arith, c .before .before .before .before .before .before .before .before .before .before .before .before .before .loop .inv .0, c .before .before .before .before .before .before .before .before .before .before .loop2-test .taken, c .before .before .before .before .before .before .before .before .loop3-test .taken) in
-    let hj : c .before .loop5 .j < 4 = omega (arith, i5 .2, c .loop5-test .taken) in
-    (omega (arith, i5 .0), omega (arith, c .loop5-test .taken), i5 .2, clearing-turn k _ _ _ _ (i5 .3) hk hj (i5 .0) _ _ (c .before .before .before .before .before .before .before .before .before .before .before .before .before .before .unused .ensures) refl)
-
-loop3-again : tie.Need-loop3-again Inv-loop4 μ-loop4 Inv-loop5 μ-loop5 Inv-loop3 μ-loop3 Inv-loop2 μ-loop2 Inv-loop7 μ-loop7 Inv-loop6 μ-loop6 Inv-loop μ-loop
-loop3-again c =
-    let i = c .before .before .before .before .before .before .before .before .loop .inv in
-    let r = systemOf (c .before .before .before .before .before .before .before .before .loop .s) in
-    let n = c .before .before .before .before .before .before .before .before .before .before .args .t2 .n in
-    let now = c .before .before .before .before .before .before .before .before .loop .s .tick + 1 in
-    let p = c .before .before .before .before .before .before .loop2 .p in
-    let y = c .before .before .before .before .before .before .loop2 .s in
-    let i2 = c .before .before .before .before .before .before .loop2 .inv in
-    let settled = i2 .5 in
-    let long : p < length (r .stations) = omega (arith, i .3 .held .stations, i .0, c .before .before .before .before .before .loop2-test .taken) in
-    let q = c .before .before .before .before .loop3 .q in
-    let x = c .before .before .before .before .loop3 .s in
-    let i3 = c .before .before .before .before .loop3 .inv in
-    let taken = i3 .4 r (i2 .4) .0 in
-    let hp : p < n = omega (arith, c .before .before .before .before .before .loop2-test .taken) in
+    let i = c .before .before .before .before .before .before .before .before .before .loop3 .inv in
+    let r = systemOf (c .before .before .before .before .before .before .before .before .before .loop3 .s) in
+    let n = c .before .before .before .before .before .before .before .before .before .before .before .before .before .args .t2 .n in
+    let now = c .before .before .before .before .before .before .before .before .before .loop3 .s .tick + 1 in
+    let q = c .before .before .before .before .before .before .before .loop4 .q in
+    let busy = c .before .before .before .before .before .before .before .loop4 .busy in
+    let i4 = c .before .before .before .before .before .before .before .loop4 .inv in
+    let p = c .before .before .before .before .loop5 .p in
+    let x = c .before .before .before .before .loop5 .s in
+    let i5 = c .before .before .before .before .loop5 .inv in
+    let taken = i5 .6 r (i4 .4) (i4 .5) .0 in
+    let hq : q < n = omega (arith, c .before .before .before .before .before .before .loop4-test .taken) in
+    let hp : p < n = omega (arith, c .before .before .before .loop5-test .taken) in
     let k = 8 * q + p in
-    let hq : q < n = omega (arith, c .before .before .before .loop3-test .taken) in
     let hk : k < 64 = omega (arith, i .0, hp, hq) in
     let u = c .before .count .result in
     let e : u ≡ getD (x .used) k 0 = c .before .count .ensures in
-    let longer = stations-long r _ p settled long in
-    let tick = settled-tick r _ p settled in
+    let tick = sym (hearing-tick r n 0 q _ (i4 .5)) in
     ⊎-elim
     (λ w.
-    let i4 = w .2 .inv in
-    let zu : w .2 .i ≡ u = omega (arith, w .3 .left, i4 .0) in
-    let pack = subst (Packing now k x (w .2 .s) (w .2 .until) (w .2 .to)) zu (i4 .5) in
-    let zj : w .4 .j ≡ u = omega (arith, w .5 .left, w .4 .inv .1) in
-    let clear = subst (Clearing k (w .2 .s) (w .4 .s) (w .2 .to)) zj (w .4 .inv .3) in
-    let said = subst (Heard (p + 1) (q + 1) now (part (x .messages) k) (getD (x .stations) p noStation) (w .2 .x)) zu (i4 .6) in (
+    let i6 = w .1 .inv in
+    let zu : w .1 .i ≡ u = omega (arith, w .2 .left, i6 .0) in
+    let pack = subst (Packing now k x (w .1 .s) (w .1 .until) (w .1 .to)) zu (i6 .5) in
+    let zj : w .3 .j ≡ u = omega (arith, w .4 .left, w .3 .inv .1) in
+    let clear = subst (Clearing k (w .1 .s) (w .3 .s) (w .1 .to)) zj (w .3 .inv .3) in
+    let said = subst (Heard (p + 1) (q + 1) now (part (x .messages) k) (getD (x .stations) p noStation) (getD (w .1 .s .stations) p noStation)) zu (i6 .6) in
+    let us = link-used-is n now p q (i .0) hp hq x _ _ _ _ u pack clear (i5 .3) (i6 .1) e _ (w .5) in (
       omega arith,
-      rw (w .7) (i4 .2),
-      omega (arith, w .7, i4 .3, i3 .2),
-      link-wide n now p q (i .0) hp hq x _ _ _ _ u pack clear (i3 .3) (i4 .1) e _ _ (w .6),
-      λ r₁ a.
-          let so₁ = i3 .4 r₁ a in (
-            link-taken n now p q (i .0) hp hq x _ _ _ _ u pack clear (i3 .3) (i4 .1) e _ _ (w .6) (w .0 .taken) r₁ _ (so₁ .0) _ (w .7) (i4 .3),
-            link-heard n now p q (i .0) hp hq x _ _ _ _ u pack clear (i3 .3) (i4 .1) e _ _ (w .6) (w .0 .taken) r₁ _ (so₁ .0) (withLinks (r₁ .links) (systemOf y)) (so₁ .1) longer tick said,
+      rw (w .6) (i6 .2),
+      omega (arith, w .6, i6 .3, i5 .2),
+      link-wide n now p q (i .0) hp hq x _ _ _ _ u pack clear (i5 .3) (i6 .1) e _ (w .5),
+      subst (λ (l : List ℕ). Silent n l busy (8 * n)) (sym us) (silent-stores n (x .used) busy (8 * n) (i .0) (i5 .4) q p _ (omega (arith, i .0, hp)) (c .before .before .before .before .before .if2 .taken)),
+      subst (λ (l : List ℕ). Gone l q (p + 1) (c .if3 .more)) (sym us) (gone-stores (x .used) q p _ _ _ (i5 .3 .used) hk (i5 .5) (λ b. i6 .8 (sym (w .7) ∙ b))),
+      λ r₁ a b.
+          let so₁ = i5 .6 r₁ a b in (
+            link-taken n now p q (i .0) hp hq x _ _ _ _ u pack clear (i5 .3) (i6 .1) e _ (w .5) (w .0 .taken) r₁ _ (so₁ .0) _ (w .6) (i6 .3),
+            link-heard n now p q (i .0) hp hq x _ _ _ _ u pack clear (i5 .3) (i6 .1) e _ (w .5) (w .0 .taken) r₁ _ (so₁ .0) (so₁ .1) (tick ∙ hearing-tick r₁ n 0 q _ b) said (i6 .7),
           ),
     ))
     (λ w. (
       omega arith,
-      rw (w .2) (i3 .1),
-      omega (arith, w .2, i3 .2),
-      subst Wide (sym (w .1)) (i3 .3),
-      λ r₁ a.
-          let so₁ = i3 .4 r₁ a in
+      rw (w .2) (i5 .1),
+      omega (arith, w .2, i5 .2),
+      subst Wide (sym (w .1)) (i5 .3),
+      subst (λ (z : Layout). Silent n (z .used) busy (8 * n)) (sym (w .1)) (i5 .4),
+      subst (λ (z : Layout). Gone (z .used) q (p + 1) (c .if3 .more)) (sym (w .1)) (gone-more (x .used) q p _ _ (i5 .5) (λ b. sym (w .3) ∙ b) (λ b. sym e ∙ w .0 .left)),
+      λ r₁ a b.
+          let so₁ = i5 .6 r₁ a b in
           let none = used-read x k hk ∙ sym e ∙ w .0 .left in (
-            rw (w .2) (subst (λ (z : Layout). Taken n now r₁ (c .before .before .before .before .loop3 .until) (systemOf z .links) (8 * p + (q + 1))) (sym (w .1)) (taken-skips n now r₁ _ _ p q (i .0) hp hq (so₁ .0) none)),
-            ap (λ (z : Layout). withLinks (r₁ .links) (systemOf z)) (w .1) ∙ none-heard n now r₁ _ x p q (i .0) hp hq (so₁ .0) (withLinks (r₁ .links) (systemOf y)) (so₁ .1) none,
+            rw (w .2) (subst (λ (z : Layout). Taken n now r₁ (c .before .before .before .before .loop5 .until) (systemOf z .links) (8 * q + (p + 1))) (sym (w .1)) (taken-skips n now r₁ _ _ p q (i .0) hp hq (so₁ .0) none)),
+            subst (λ (z : Layout). Hearing r₁ n (p + 1) q (systemOf z)) (sym (w .1)) (none-heard n now r₁ _ x p q (i .0) hp hq (so₁ .0) (so₁ .1) none),
           ),
     ))
-    (c .if1 .came)
+    (c .if3 .came)
 
-expire-requires : tie.Need-expire-requires Inv-loop4 μ-loop4 Inv-loop5 μ-loop5 Inv-loop3 μ-loop3 Inv-loop2 μ-loop2 Inv-loop7 μ-loop7 Inv-loop6 μ-loop6 Inv-loop μ-loop
-expire-requires c κs =
-    let i = c .before .before .before .before .before .before .before .before .before .loop .inv in
-    let r = systemOf (c .before .before .before .before .before .before .before .before .before .loop .s) in
-    let n = c .before .before .before .before .before .before .before .before .before .before .before .args .t2 .n in
-    let p = c .before .before .before .before .before .before .before .loop2 .p in
-    let i2 = c .before .before .before .before .before .before .before .loop2 .inv in
-    let settled = i2 .5 in
-    let long : p < length (r .stations) = omega (arith, i .3 .held .stations, i .0, c .before .before .before .before .before .before .loop2-test .taken) in
-    let q = c .before .before .before .before .before .loop3 .q in
-    let x = c .before .before .before .before .before .loop3 .s in
-    let i3 = c .before .before .before .before .before .loop3 .inv in
-    let taken = i3 .4 r (i2 .4) .0 in
-    let so = i3 .4 r (i2 .4) .1 in
-    let ticking = going-ticking _ _ r (i .3) (c .before .before .before .before .before .before .before .before .loop-test .taken) in
-    let hp′ : p < r .n = omega (arith, i .3 .size) in
-    let z : q ≡ r .n = omega (arith, i .3 .size, c .before .before .before .before .loop3-test .left, i3 .0) in
-    timer-ready r _ p settled long (withLinks (r .links) (systemOf x)) q so z ticking hp′ (sym (c .before .before .timer-ends .ensures) ∙ c .before .if4 .taken)
-
-loop2-again : tie.Need-loop2-again Inv-loop4 μ-loop4 Inv-loop5 μ-loop5 Inv-loop3 μ-loop3 Inv-loop2 μ-loop2 Inv-loop7 μ-loop7 Inv-loop6 μ-loop6 Inv-loop μ-loop
-loop2-again c =
-    let i = c .before .before .before .before .before .before .before .before .loop .inv in
-    let r = systemOf (c .before .before .before .before .before .before .before .before .loop .s) in
-    let n = c .before .before .before .before .before .before .before .before .before .before .args .t2 .n in
-    let now = c .before .before .before .before .before .before .before .before .loop .s .tick + 1 in
-    let p = c .before .before .before .before .before .before .loop2 .p in
-    let i2 = c .before .before .before .before .before .before .loop2 .inv in
-    let settled = i2 .5 in
-    let long : p < length (r .stations) = omega (arith, i .3 .held .stations, i .0, c .before .before .before .before .before .loop2-test .taken) in
-    let q = c .before .before .before .before .loop3 .q in
-    let x = c .before .before .before .before .loop3 .s in
-    let i3 = c .before .before .before .before .loop3 .inv in
-    let taken = i3 .4 r (i2 .4) .0 in
-    let so = i3 .4 r (i2 .4) .1 in
-    let z : q ≡ r .n = omega (arith, i .3 .size, c .before .before .before .loop3-test .left, i3 .0) in
-    let zn : q ≡ n = omega (arith, c .before .before .before .loop3-test .left, i3 .0) in
-    let test = c .before .timer-ends .ensures in
-    let row = taken-row n now r _ _ _ taken p (i .0) (ap (λ (j : ℕ). 8 * p + j) zn) in
+loop4-again : tie.Need-loop4-again Inv-loop2 μ-loop2 Inv-loop μ-loop Inv-loop6 μ-loop6 Inv-loop7 μ-loop7 Inv-loop5 μ-loop5 Inv-loop4 μ-loop4 Inv-loop9 μ-loop9 Inv-loop8 μ-loop8 Inv-loop3 μ-loop3
+loop4-again c =
+    let i = c .before .before .before .before .loop3 .inv in
+    let r = systemOf (c .before .before .before .before .loop3 .s) in
+    let n = c .before .before .before .before .before .before .before .before .args .t2 .n in
+    let now = c .before .before .before .before .loop3 .s .tick + 1 in
+    let q = c .before .before .loop4 .q in
+    let y = c .before .before .loop4 .s in
+    let i4 = c .before .before .loop4 .inv in
+    let hq : q < n = omega (arith, c .before .loop4-test .taken) in
     ⊎-elim
-    (λ w. (
+    (λ w.
+    let i5 = w .1 .inv in
+    let zp : w .1 .p ≡ n = omega (arith, w .2 .left, i5 .0) in
+    let so = i5 .6 r (i4 .4) (i4 .5) in (
       search needs,
-      i3 .1,
-      i3 .2,
-      subst Wide (sym (w .3)) (record { used = i3 .3 .used; messages = i3 .3 .messages }),
-      subst (λ (z : Layout). Taken n now r (c .before .before .before .before .loop3 .until) (systemOf z .links) (8 * (p + 1))) (sym (w .3)) row,
-      ap (λ (z : Layout). withLinks (r .links) (systemOf z)) (w .3) ∙ settled-ends r _ p settled long (withLinks (r .links) (systemOf x)) q so z _ (sym test ∙ w .0 .taken) (w .2 .ensures),
+      rw (w .5) (i5 .1),
+      omega (arith, w .5, i5 .2),
+      subst Wide (sym (w .3)) (i5 .3),
+      rw (w .5) (subst (λ (z : Layout). Taken n now r (w .1 .until) (systemOf z .links) (8 * (q + 1))) (sym (w .3)) (taken-row n now r _ _ _ (so .0) q (i .0) (ap (λ (j : ℕ). 8 * q + j) zp))),
+      subst (λ (z : Layout). Hearing r n 0 (q + 1) (systemOf z)) (sym (w .3)) (hearing-row r n _ q _ (so .1) zp),
+      subst (λ (z : Layout). Silent n (z .used) (c .if2 .busy) (8 * n)) (sym (w .3)) (subst (λ (b : List Bool). Silent n (w .1 .s .used) b (8 * n)) (sym (w .4)) (silent-sets n _ _ _ (i .0) (i5 .4) q (w .1 .more) (omega (arith, i .0, hq)) (λ e j h. i5 .5 e j (omega (arith, zp, h))))),
     ))
-    (λ w. (
+    (λ w.
+    let none : (p : ℕ) → p < n → getD (systemOf y .links) (8 * q + p) noLink .used ≡ 0 = λ p h. used-read y (8 * q + p) (omega (arith, i .0, hq, h)) ∙ i4 .6 .none q p hq h (omega (arith, hq, h, i .0)) (w .0 .left) in (
       search needs,
-      i3 .1,
-      i3 .2,
-      subst Wide (sym (w .1)) (i3 .3),
-      subst (λ (z : Layout). Taken n now r (c .before .before .before .before .loop3 .until) (systemOf z .links) (8 * (p + 1))) (sym (w .1)) row,
-      ap (λ (z : Layout). withLinks (r .links) (systemOf z)) (w .1) ∙ settled-waits r _ p settled long (withLinks (r .links) (systemOf x)) q so z (sym test ∙ w .0 .left),
+      rw (w .3) (i4 .1),
+      omega (arith, w .3, i4 .2),
+      subst Wide (sym (w .1)) (i4 .3),
+      rw (w .3) (subst (λ (z : Layout). Taken n now r (c .before .before .loop4 .until) (systemOf z .links) (8 * (q + 1))) (sym (w .1)) (taken-rests n now r _ _ _ (i4 .4) q (i .0) hq refl none)),
+      subst (λ (z : Layout). Hearing r n 0 (q + 1) (systemOf z)) (sym (w .1)) (hearing-rests r n 0 q _ (i4 .5) refl (none-before n now r _ _ _ (i4 .4) q (i .0) hq refl none)),
+      subst (λ (z : Layout). Silent n (z .used) (c .if2 .busy) (8 * n)) (sym (w .1)) (subst (λ (b : List Bool). Silent n (y .used) b (8 * n)) (sym (w .2)) (i4 .6)),
     ))
-    (c .if4 .came)
+    (c .if2 .came)
 
-loop6-holds : tie.Need-loop6-holds Inv-loop4 μ-loop4 Inv-loop5 μ-loop5 Inv-loop3 μ-loop3 Inv-loop2 μ-loop2 Inv-loop7 μ-loop7 Inv-loop6 μ-loop6 Inv-loop μ-loop
-loop6-holds c =
-    let i2 = c .before .loop2 .inv in
-    let z : c .before .loop2 .p ≡ c .before .before .before .before .before .args .t2 .n = omega (arith, i2 .0, c .loop2-test .left) in
-    (search needs, i2 .1, i2 .2, i2 .3, part-first (systemOf (c .before .before .before .loop .s)) _ _ _ _ (length-links _ _) (i2 .4) z (i2 .5))
+loop8-holds : tie.Need-loop8-holds Inv-loop2 μ-loop2 Inv-loop μ-loop Inv-loop6 μ-loop6 Inv-loop7 μ-loop7 Inv-loop5 μ-loop5 Inv-loop4 μ-loop4 Inv-loop9 μ-loop9 Inv-loop8 μ-loop8 Inv-loop3 μ-loop3
+loop8-holds c =
+    let i4 = c .before .loop4 .inv in
+    let z : c .before .loop4 .q ≡ c .before .before .before .before .before .before .before .args .t2 .n = omega (arith, i4 .0, c .loop4-test .left) in
+    (search needs, i4 .1, record { high = i4 .2; wide = i4 .3; silent = i4 .6; chances = chances-first _ _ _ (c .before .loop4 .s) (i4 .5 .long) (part-first (systemOf (c .before .before .before .loop3 .s)) _ _ _ (systemOf (c .before .loop4 .s)) (length-links _ _) (i4 .4) z (i4 .5)) })
 
-loop7-holds : tie.Need-loop7-holds Inv-loop4 μ-loop4 Inv-loop5 μ-loop5 Inv-loop3 μ-loop3 Inv-loop2 μ-loop2 Inv-loop7 μ-loop7 Inv-loop6 μ-loop6 Inv-loop μ-loop
-loop7-holds c =
-    let i = c .before .before .before .before .before .before .loop6 .inv in
-    let z : 8 * c .before .before .before .before .before .before .loop6 .p + 0 ≡ 8 * c .before .before .before .before .before .before .loop6 .p = omega arith in
-    (search needs, i .1, i .2, i .3, λ m a. rw z a)
+expire-requires : tie.Need-expire-requires Inv-loop2 μ-loop2 Inv-loop μ-loop Inv-loop6 μ-loop6 Inv-loop7 μ-loop7 Inv-loop5 μ-loop5 Inv-loop4 μ-loop4 Inv-loop9 μ-loop9 Inv-loop8 μ-loop8 Inv-loop3 μ-loop3
+expire-requires c κs =
+    let i = c .before .before .before .before .before .before .before .before .before .loop3 .inv in
+    let r = systemOf (c .before .before .before .before .before .before .before .before .before .loop3 .s) in
+    let n = c .before .before .before .before .before .before .before .before .before .before .before .before .before .args .t2 .n in
+    let i4 = c .before .before .before .before .before .before .before .loop4 .inv in
+    let p = c .before .before .before .before .before .loop8 .p in
+    let hp : p < n = omega (arith, c .before .before .before .before .loop8-test .taken) in
+    let z : c .before .before .before .before .before .before .before .loop4 .q ≡ n = omega (arith, i4 .0, c .before .before .before .before .before .before .loop4-test .left) in
+    timer-ready r n _ (systemOf (c .before .before .before .before .before .before .before .loop4 .s)) (i4 .5) z (i .3 .size) (going-ticking _ _ r (i .3) (c .before .before .before .before .before .before .before .before .loop3-test .taken)) p hp _ (c .before .before .before .before .before .loop8 .inv .2 .chances .rest p (omega arith)) (sym (c .before .before .timer-ends .ensures) ∙ c .before .if6 .taken)
 
-add-due : tie.Need-add-due Inv-loop4 μ-loop4 Inv-loop5 μ-loop5 Inv-loop3 μ-loop3 Inv-loop2 μ-loop2 Inv-loop7 μ-loop7 Inv-loop6 μ-loop6 Inv-loop μ-loop
-add-due c =
-    omega (arith, c .before .before .before .ticks-of .ensures .1, c .before .before .before .before .before .before .before .before .before .before .before .before .before .before .before .before .before .loop .inv .1, c .before .before .before .before .before .before .before .before .before .before .before .before .before .before .before .before .loop-test .taken)
+loop9-holds : tie.Need-loop9-holds Inv-loop2 μ-loop2 Inv-loop μ-loop Inv-loop6 μ-loop6 Inv-loop7 μ-loop7 Inv-loop5 μ-loop5 Inv-loop4 μ-loop4 Inv-loop9 μ-loop9 Inv-loop8 μ-loop8 Inv-loop3 μ-loop3
+loop9-holds c =
+    let n = c .before .before .before .before .before .before .before .before .before .before .before .before .before .before .before .before .before .before .args .t2 .n in
+    let hn : n ≤ 8 = c .before .before .before .before .before .before .before .before .before .before .before .before .before .before .loop3 .inv .0 in
+    let now = c .before .before .before .before .before .before .before .before .before .before .before .before .before .before .loop3 .s .tick + 1 in
+    let σ = systemOf (c .before .before .before .before .before .before .before .before .before .before .before .before .loop4 .s) in
+    let p = c .before .before .before .before .before .before .before .before .before .before .loop8 .p in
+    let i8 = c .before .before .before .before .before .before .before .before .before .before .loop8 .inv in
+    let hp : p < n = omega (arith, c .before .before .before .before .before .before .before .before .before .loop8-test .taken) in
+    let hp8 : p < 8 = omega (arith, c .before .before .before .before .before .before .before .before .before .before .before .before .before .before .loop3 .inv .0) in
+    let end = c .before .before .before .before .before .before .before .before .before .before .before .before .before .before .before .before .before .before .args .t2 .tick + c .before .before .before .before .before .before .before .before .before .before .before .before .before .before .before .before .before .before .args .t in
+    let test = c .before .before .before .before .before .before .before .timer-ends .ensures in
+    let ch : Turn n now σ end (c .before .before .before .before .before .before .before .before .before .before .loop8 .until) (c .before .before .before .before .before .before .if6 .s) (c .before .before .before .before .before .before .before .before .before .before .loop8 .busy) (p + 1) p p (8 * p) =
+    ⊎-elim
+    (λ w. turn-ends n now σ end _ (c .before .before .before .before .before .before .before .before .before .before .loop8 .s) _ p hp hn (i8 .2) _ _ (sym test ∙ w .0 .taken) (w .2 .ensures) (w .3))
+    (λ w. turn-stays n now σ end _ (c .before .before .before .before .before .before .before .before .before .before .loop8 .s) _ p hp hn (i8 .2) _ (sym test ∙ w .0 .left) (w .1))
+    (c .before .before .before .before .before .before .if6 .came) in
+    let z : 8 * p + 0 ≡ 8 * p = omega arith in
+    (search needs, i8 .1, ch .high, ch .wide, silent-sends n _ _ _ hn (ch .silent) p hp8, getD-set-same (c .before .before .before .before .before .before .before .before .before .before .loop8 .busy) p true false (omega (arith, ch .silent .long, hp8)), λ σ₁ a. rw z a)
 
-add-t108 : tie.Need-add-t108 Inv-loop4 μ-loop4 Inv-loop5 μ-loop5 Inv-loop3 μ-loop3 Inv-loop2 μ-loop2 Inv-loop7 μ-loop7 Inv-loop6 μ-loop6 Inv-loop μ-loop
-add-t108 c =
-    let n = c .before .before .before .before .before .before .before .before .before .before .before .before .before .before .before .before .before .before .before .args .t2 .n in
-    let now = c .before .before .before .before .before .before .before .before .before .before .before .before .before .before .before .before .before .loop .s .tick + 1 in
-    let m = systemOf (c .before .before .before .before .before .before .before .before .before .before .before .before .before .before .before .loop2 .s) in
-    let p = c .before .before .before .before .before .before .before .before .before .before .before .before .before .loop6 .p in
-    let i6 = c .before .before .before .before .before .before .before .before .before .before .before .before .before .loop6 .inv in
-    let before = i6 .4 in
-    let hp : p < n = omega (arith, c .before .before .before .before .before .before .before .before .before .before .before .before .loop6-test .taken) in
-    let says = c .before .before .before .before .before .before .before .before .before .before .sends-now .ensures ∙ ap (sendsNow (p + 1) now) (part-station n now m _ _ p _ _ before) in
-    let x = c .before .before .before .before .before .before .loop7 .s in
-    let until = c .before .before .before .before .before .before .loop7 .until in
-    let q = c .before .before .before .before .before .before .loop7 .q in
-    let i7 = c .before .before .before .before .before .before .loop7 .inv in
+element-copy-out-count-2 : tie.Need-element-copy-out-count-2 Inv-loop2 μ-loop2 Inv-loop μ-loop Inv-loop6 μ-loop6 Inv-loop7 μ-loop7 Inv-loop5 μ-loop5 Inv-loop4 μ-loop4 Inv-loop9 μ-loop9 Inv-loop8 μ-loop8 Inv-loop3 μ-loop3
+element-copy-out-count-2 c = search needs
+
+add-due-2 : tie.Need-add-due-2 Inv-loop2 μ-loop2 Inv-loop μ-loop Inv-loop6 μ-loop6 Inv-loop7 μ-loop7 Inv-loop5 μ-loop5 Inv-loop4 μ-loop4 Inv-loop9 μ-loop9 Inv-loop8 μ-loop8 Inv-loop3 μ-loop3
+add-due-2 c =
+    omega (arith, c .before .before .before .ticks-of .ensures .1, c .before .before .before .before .before .before .before .before .before .before .before .before .before .before .before .before .before .before .before .before .before .loop3 .inv .1, c .before .before .before .before .before .before .before .before .before .before .before .before .before .before .before .before .before .before .before .before .loop3-test .taken)
+
+mul-t144 : tie.Need-mul-t144 Inv-loop2 μ-loop2 Inv-loop μ-loop Inv-loop6 μ-loop6 Inv-loop7 μ-loop7 Inv-loop5 μ-loop5 Inv-loop4 μ-loop4 Inv-loop9 μ-loop9 Inv-loop8 μ-loop8 Inv-loop3 μ-loop3
+mul-t144 c = search needs
+
+add-t145 : tie.Need-add-t145 Inv-loop2 μ-loop2 Inv-loop μ-loop Inv-loop6 μ-loop6 Inv-loop7 μ-loop7 Inv-loop5 μ-loop5 Inv-loop4 μ-loop4 Inv-loop9 μ-loop9 Inv-loop8 μ-loop8 Inv-loop3 μ-loop3
+add-t145 c =
+    let n = c .before .before .before .before .before .before .before .before .before .before .before .before .before .before .before .before .before .before .before .before .before .before .before .before .before .args .t2 .n in
+    let hn : n ≤ 8 = c .before .before .before .before .before .before .before .before .before .before .before .before .before .before .before .before .before .before .before .before .before .loop3 .inv .0 in
+    let now = c .before .before .before .before .before .before .before .before .before .before .before .before .before .before .before .before .before .before .before .before .before .loop3 .s .tick + 1 in
+    let σ = systemOf (c .before .before .before .before .before .before .before .before .before .before .before .before .before .before .before .before .before .before .before .loop4 .s) in
+    let p = c .before .before .before .before .before .before .before .before .before .before .before .before .before .before .before .before .before .loop8 .p in
+    let i8 = c .before .before .before .before .before .before .before .before .before .before .before .before .before .before .before .before .before .loop8 .inv in
+    let hp : p < n = omega (arith, c .before .before .before .before .before .before .before .before .before .before .before .before .before .before .before .before .loop8-test .taken) in
+    let end = c .before .before .before .before .before .before .before .before .before .before .before .before .before .before .before .before .before .before .before .before .before .before .before .before .before .args .t2 .tick + c .before .before .before .before .before .before .before .before .before .before .before .before .before .before .before .before .before .before .before .before .before .before .before .before .before .args .t in
+    let test = c .before .before .before .before .before .before .before .before .before .before .before .before .before .before .timer-ends .ensures in
+    let ch : Turn n now σ end (c .before .before .before .before .before .before .before .before .before .before .before .before .before .before .before .before .before .loop8 .until) (c .before .before .before .before .before .before .before .before .before .before .before .before .before .if6 .s) (c .before .before .before .before .before .before .before .before .before .before .before .before .before .before .before .before .before .loop8 .busy) (p + 1) p p (8 * p) =
+    ⊎-elim
+    (λ w. turn-ends n now σ end _ (c .before .before .before .before .before .before .before .before .before .before .before .before .before .before .before .before .before .loop8 .s) _ p hp hn (i8 .2) _ _ (sym test ∙ w .0 .taken) (w .2 .ensures) (w .3))
+    (λ w. turn-stays n now σ end _ (c .before .before .before .before .before .before .before .before .before .before .before .before .before .before .before .before .before .loop8 .s) _ p hp hn (i8 .2) _ (sym test ∙ w .0 .left) (w .1))
+    (c .before .before .before .before .before .before .before .before .before .before .before .before .before .if6 .came) in
+    let x = c .before .before .before .before .before .before .loop9 .s in
+    let until = c .before .before .before .before .before .before .loop9 .until in
+    let q = c .before .before .before .before .before .before .loop9 .q in
+    let i9 = c .before .before .before .before .before .before .loop9 .inv in
     let k = 8 * p + q in
-    let hq : q < n = omega (arith, c .before .before .before .before .before .loop7-test .taken) in
-    let hk : k < 64 = omega (arith, c .before .before .before .before .before .before .before .before .before .before .before .before .before .before .before .before .before .loop .inv .0, hp, hq) in
-    let free = place-free n now m until x p q hp hq (i7 .4 m before) (i7 .3) _ (c .before .before .before .ticks-of .ensures .0) (c .before .before .if6 .taken) (sym says ∙ c .before .before .before .before .before .before .before .before .before .if5 .taken) _ (ap (λ (z : Station). z .recovered) (part-station n now m _ _ p _ _ before)) _ (c .count2 .ensures) in
+    let hq : q < n = omega (arith, c .before .before .before .before .before .loop9-test .taken) in
+    let hk : k < 64 = omega (arith, hn, hp, hq) in
+    let says = chances-says n now σ _ _ p p _ (ch .chances) hp _ (c .before .before .before .before .before .before .before .before .before .before .sends-now .ensures) in
+    let free = chances-free n now σ until x p hp q hq (i9 .6 σ (ch .chances)) _ (c .before .before .before .ticks-of .ensures .0) (i9 .3) (c .before .before .if9 .taken) (sym says ∙ c .before .before .before .before .before .before .before .before .before .if8 .taken) _ (ap (λ (z : Station). z .recovered) (chances-station n now σ _ _ p p _ (ch .chances) hp)) _ (c .count2 .ensures) in
     omega (arith, free, hk)
 
-mul-t109 : tie.Need-mul-t109 Inv-loop4 μ-loop4 Inv-loop5 μ-loop5 Inv-loop3 μ-loop3 Inv-loop2 μ-loop2 Inv-loop7 μ-loop7 Inv-loop6 μ-loop6 Inv-loop μ-loop
-mul-t109 c =
-    let n = c .before .before .before .before .before .before .before .before .before .before .before .before .before .before .before .before .before .before .before .args .t2 .n in
-    let now = c .before .before .before .before .before .before .before .before .before .before .before .before .before .before .before .before .before .loop .s .tick + 1 in
-    let m = systemOf (c .before .before .before .before .before .before .before .before .before .before .before .before .before .before .before .loop2 .s) in
-    let p = c .before .before .before .before .before .before .before .before .before .before .before .before .before .loop6 .p in
-    let i6 = c .before .before .before .before .before .before .before .before .before .before .before .before .before .loop6 .inv in
-    let before = i6 .4 in
-    let hp : p < n = omega (arith, c .before .before .before .before .before .before .before .before .before .before .before .before .loop6-test .taken) in
-    let says = c .before .before .before .before .before .before .before .before .before .before .sends-now .ensures ∙ ap (sendsNow (p + 1) now) (part-station n now m _ _ p _ _ before) in
-    let x = c .before .before .before .before .before .before .loop7 .s in
-    let until = c .before .before .before .before .before .before .loop7 .until in
-    let q = c .before .before .before .before .before .before .loop7 .q in
-    let i7 = c .before .before .before .before .before .before .loop7 .inv in
+mul-t146 : tie.Need-mul-t146 Inv-loop2 μ-loop2 Inv-loop μ-loop Inv-loop6 μ-loop6 Inv-loop7 μ-loop7 Inv-loop5 μ-loop5 Inv-loop4 μ-loop4 Inv-loop9 μ-loop9 Inv-loop8 μ-loop8 Inv-loop3 μ-loop3
+mul-t146 c =
+    let n = c .before .before .before .before .before .before .before .before .before .before .before .before .before .before .before .before .before .before .before .before .before .before .before .before .before .args .t2 .n in
+    let hn : n ≤ 8 = c .before .before .before .before .before .before .before .before .before .before .before .before .before .before .before .before .before .before .before .before .before .loop3 .inv .0 in
+    let now = c .before .before .before .before .before .before .before .before .before .before .before .before .before .before .before .before .before .before .before .before .before .loop3 .s .tick + 1 in
+    let σ = systemOf (c .before .before .before .before .before .before .before .before .before .before .before .before .before .before .before .before .before .before .before .loop4 .s) in
+    let p = c .before .before .before .before .before .before .before .before .before .before .before .before .before .before .before .before .before .loop8 .p in
+    let i8 = c .before .before .before .before .before .before .before .before .before .before .before .before .before .before .before .before .before .loop8 .inv in
+    let hp : p < n = omega (arith, c .before .before .before .before .before .before .before .before .before .before .before .before .before .before .before .before .loop8-test .taken) in
+    let end = c .before .before .before .before .before .before .before .before .before .before .before .before .before .before .before .before .before .before .before .before .before .before .before .before .before .args .t2 .tick + c .before .before .before .before .before .before .before .before .before .before .before .before .before .before .before .before .before .before .before .before .before .before .before .before .before .args .t in
+    let test = c .before .before .before .before .before .before .before .before .before .before .before .before .before .before .timer-ends .ensures in
+    let ch : Turn n now σ end (c .before .before .before .before .before .before .before .before .before .before .before .before .before .before .before .before .before .loop8 .until) (c .before .before .before .before .before .before .before .before .before .before .before .before .before .if6 .s) (c .before .before .before .before .before .before .before .before .before .before .before .before .before .before .before .before .before .loop8 .busy) (p + 1) p p (8 * p) =
+    ⊎-elim
+    (λ w. turn-ends n now σ end _ (c .before .before .before .before .before .before .before .before .before .before .before .before .before .before .before .before .before .loop8 .s) _ p hp hn (i8 .2) _ _ (sym test ∙ w .0 .taken) (w .2 .ensures) (w .3))
+    (λ w. turn-stays n now σ end _ (c .before .before .before .before .before .before .before .before .before .before .before .before .before .before .before .before .before .loop8 .s) _ p hp hn (i8 .2) _ (sym test ∙ w .0 .left) (w .1))
+    (c .before .before .before .before .before .before .before .before .before .before .before .before .before .if6 .came) in
+    let x = c .before .before .before .before .before .before .loop9 .s in
+    let until = c .before .before .before .before .before .before .loop9 .until in
+    let q = c .before .before .before .before .before .before .loop9 .q in
+    let i9 = c .before .before .before .before .before .before .loop9 .inv in
     let k = 8 * p + q in
-    let hq : q < n = omega (arith, c .before .before .before .before .before .loop7-test .taken) in
-    let hk : k < 64 = omega (arith, c .before .before .before .before .before .before .before .before .before .before .before .before .before .before .before .before .before .loop .inv .0, hp, hq) in
-    let free = place-free n now m until x p q hp hq (i7 .4 m before) (i7 .3) _ (c .before .before .before .ticks-of .ensures .0) (c .before .before .if6 .taken) (sym says ∙ c .before .before .before .before .before .before .before .before .before .if5 .taken) _ (ap (λ (z : Station). z .recovered) (part-station n now m _ _ p _ _ before)) _ (c .count2 .ensures) in
+    let hq : q < n = omega (arith, c .before .before .before .before .before .loop9-test .taken) in
+    let hk : k < 64 = omega (arith, hn, hp, hq) in
+    let says = chances-says n now σ _ _ p p _ (ch .chances) hp _ (c .before .before .before .before .before .before .before .before .before .before .sends-now .ensures) in
+    let free = chances-free n now σ until x p hp q hq (i9 .6 σ (ch .chances)) _ (c .before .before .before .ticks-of .ensures .0) (i9 .3) (c .before .before .if9 .taken) (sym says ∙ c .before .before .before .before .before .before .before .before .before .if8 .taken) _ (ap (λ (z : Station). z .recovered) (chances-station n now σ _ _ p p _ (ch .chances) hp)) _ (c .count2 .ensures) in
     record { fits = omega (arith, free, hk) }
 
-element-set-from-s-2 : tie.Need-element-set-from-s-2 Inv-loop4 μ-loop4 Inv-loop5 μ-loop5 Inv-loop3 μ-loop3 Inv-loop2 μ-loop2 Inv-loop7 μ-loop7 Inv-loop6 μ-loop6 Inv-loop μ-loop
-element-set-from-s-2 c =
-    let n = c .before .before .before .before .before .before .before .before .before .before .before .before .before .before .before .before .before .before .before .args .t2 .n in
-    let now = c .before .before .before .before .before .before .before .before .before .before .before .before .before .before .before .before .before .loop .s .tick + 1 in
-    let m = systemOf (c .before .before .before .before .before .before .before .before .before .before .before .before .before .before .before .loop2 .s) in
-    let p = c .before .before .before .before .before .before .before .before .before .before .before .before .before .loop6 .p in
-    let i6 = c .before .before .before .before .before .before .before .before .before .before .before .before .before .loop6 .inv in
-    let before = i6 .4 in
-    let hp : p < n = omega (arith, c .before .before .before .before .before .before .before .before .before .before .before .before .loop6-test .taken) in
-    let says = c .before .before .before .before .before .before .before .before .before .before .sends-now .ensures ∙ ap (sendsNow (p + 1) now) (part-station n now m _ _ p _ _ before) in
-    let x = c .before .before .before .before .before .before .loop7 .s in
-    let until = c .before .before .before .before .before .before .loop7 .until in
-    let q = c .before .before .before .before .before .before .loop7 .q in
-    let i7 = c .before .before .before .before .before .before .loop7 .inv in
+element-set-from-s-4 : tie.Need-element-set-from-s-4 Inv-loop2 μ-loop2 Inv-loop μ-loop Inv-loop6 μ-loop6 Inv-loop7 μ-loop7 Inv-loop5 μ-loop5 Inv-loop4 μ-loop4 Inv-loop9 μ-loop9 Inv-loop8 μ-loop8 Inv-loop3 μ-loop3
+element-set-from-s-4 c =
+    let n = c .before .before .before .before .before .before .before .before .before .before .before .before .before .before .before .before .before .before .before .before .before .before .before .before .before .args .t2 .n in
+    let hn : n ≤ 8 = c .before .before .before .before .before .before .before .before .before .before .before .before .before .before .before .before .before .before .before .before .before .loop3 .inv .0 in
+    let now = c .before .before .before .before .before .before .before .before .before .before .before .before .before .before .before .before .before .before .before .before .before .loop3 .s .tick + 1 in
+    let σ = systemOf (c .before .before .before .before .before .before .before .before .before .before .before .before .before .before .before .before .before .before .before .loop4 .s) in
+    let p = c .before .before .before .before .before .before .before .before .before .before .before .before .before .before .before .before .before .loop8 .p in
+    let i8 = c .before .before .before .before .before .before .before .before .before .before .before .before .before .before .before .before .before .loop8 .inv in
+    let hp : p < n = omega (arith, c .before .before .before .before .before .before .before .before .before .before .before .before .before .before .before .before .loop8-test .taken) in
+    let end = c .before .before .before .before .before .before .before .before .before .before .before .before .before .before .before .before .before .before .before .before .before .before .before .before .before .args .t2 .tick + c .before .before .before .before .before .before .before .before .before .before .before .before .before .before .before .before .before .before .before .before .before .before .before .before .before .args .t in
+    let test = c .before .before .before .before .before .before .before .before .before .before .before .before .before .before .timer-ends .ensures in
+    let ch : Turn n now σ end (c .before .before .before .before .before .before .before .before .before .before .before .before .before .before .before .before .before .loop8 .until) (c .before .before .before .before .before .before .before .before .before .before .before .before .before .if6 .s) (c .before .before .before .before .before .before .before .before .before .before .before .before .before .before .before .before .before .loop8 .busy) (p + 1) p p (8 * p) =
+    ⊎-elim
+    (λ w. turn-ends n now σ end _ (c .before .before .before .before .before .before .before .before .before .before .before .before .before .before .before .before .before .loop8 .s) _ p hp hn (i8 .2) _ _ (sym test ∙ w .0 .taken) (w .2 .ensures) (w .3))
+    (λ w. turn-stays n now σ end _ (c .before .before .before .before .before .before .before .before .before .before .before .before .before .before .before .before .before .loop8 .s) _ p hp hn (i8 .2) _ (sym test ∙ w .0 .left) (w .1))
+    (c .before .before .before .before .before .before .before .before .before .before .before .before .before .if6 .came) in
+    let x = c .before .before .before .before .before .before .loop9 .s in
+    let until = c .before .before .before .before .before .before .loop9 .until in
+    let q = c .before .before .before .before .before .before .loop9 .q in
+    let i9 = c .before .before .before .before .before .before .loop9 .inv in
     let k = 8 * p + q in
-    let hq : q < n = omega (arith, c .before .before .before .before .before .loop7-test .taken) in
-    let hk : k < 64 = omega (arith, c .before .before .before .before .before .before .before .before .before .before .before .before .before .before .before .before .before .loop .inv .0, hp, hq) in
-    let free = place-free n now m until x p q hp hq (i7 .4 m before) (i7 .3) _ (c .before .before .before .ticks-of .ensures .0) (c .before .before .if6 .taken) (sym says ∙ c .before .before .before .before .before .before .before .before .before .if5 .taken) _ (ap (λ (z : Station). z .recovered) (part-station n now m _ _ p _ _ before)) _ (c .count2 .ensures) in
+    let hq : q < n = omega (arith, c .before .before .before .before .before .loop9-test .taken) in
+    let hk : k < 64 = omega (arith, hn, hp, hq) in
+    let says = chances-says n now σ _ _ p p _ (ch .chances) hp _ (c .before .before .before .before .before .before .before .before .before .before .sends-now .ensures) in
+    let free = chances-free n now σ until x p hp q hq (i9 .6 σ (ch .chances)) _ (c .before .before .before .ticks-of .ensures .0) (i9 .3) (c .before .before .if9 .taken) (sym says ∙ c .before .before .before .before .before .before .before .before .before .if8 .taken) _ (ap (λ (z : Station). z .recovered) (chances-station n now σ _ _ p p _ (ch .chances) hp)) _ (c .count2 .ensures) in
     omega (arith, free, hk)
 
-add-s : tie.Need-add-s Inv-loop4 μ-loop4 Inv-loop5 μ-loop5 Inv-loop3 μ-loop3 Inv-loop2 μ-loop2 Inv-loop7 μ-loop7 Inv-loop6 μ-loop6 Inv-loop μ-loop
-add-s c =
-    let n = c .before .before .before .before .before .before .before .before .before .before .before .before .before .before .before .before .before .before .before .before .args .t2 .n in
-    let now = c .before .before .before .before .before .before .before .before .before .before .before .before .before .before .before .before .before .before .loop .s .tick + 1 in
-    let m = systemOf (c .before .before .before .before .before .before .before .before .before .before .before .before .before .before .before .before .loop2 .s) in
-    let p = c .before .before .before .before .before .before .before .before .before .before .before .before .before .before .loop6 .p in
-    let i6 = c .before .before .before .before .before .before .before .before .before .before .before .before .before .before .loop6 .inv in
-    let before = i6 .4 in
-    let hp : p < n = omega (arith, c .before .before .before .before .before .before .before .before .before .before .before .before .before .loop6-test .taken) in
-    let says = c .before .before .before .before .before .before .before .before .before .before .before .sends-now .ensures ∙ ap (sendsNow (p + 1) now) (part-station n now m _ _ p _ _ before) in
-    let x = c .before .before .before .before .before .before .before .loop7 .s in
-    let until = c .before .before .before .before .before .before .before .loop7 .until in
-    let q = c .before .before .before .before .before .before .before .loop7 .q in
-    let i7 = c .before .before .before .before .before .before .before .loop7 .inv in
-    let hq : q < n = omega (arith, c .before .before .before .before .before .before .loop7-test .taken) in
-    let free = place-free n now m until x p q hp hq (i7 .4 m before) (i7 .3) _ (c .before .before .before .before .ticks-of .ensures .0) (c .before .before .before .if6 .taken) (sym says ∙ c .before .before .before .before .before .before .before .before .before .before .if5 .taken) _ (ap (λ (z : Station). z .recovered) (part-station n now m _ _ p _ _ before)) _ (c .before .count2 .ensures) in
+element-copy-out-s-2 : tie.Need-element-copy-out-s-2 Inv-loop2 μ-loop2 Inv-loop μ-loop Inv-loop6 μ-loop6 Inv-loop7 μ-loop7 Inv-loop5 μ-loop5 Inv-loop4 μ-loop4 Inv-loop9 μ-loop9 Inv-loop8 μ-loop8 Inv-loop3 μ-loop3
+element-copy-out-s-2 c = search needs
+
+add-s-2 : tie.Need-add-s-2 Inv-loop2 μ-loop2 Inv-loop μ-loop Inv-loop6 μ-loop6 Inv-loop7 μ-loop7 Inv-loop5 μ-loop5 Inv-loop4 μ-loop4 Inv-loop9 μ-loop9 Inv-loop8 μ-loop8 Inv-loop3 μ-loop3
+add-s-2 c =
+    let n = c .before .before .before .before .before .before .before .before .before .before .before .before .before .before .before .before .before .before .before .before .before .before .before .before .before .before .args .t2 .n in
+    let hn : n ≤ 8 = c .before .before .before .before .before .before .before .before .before .before .before .before .before .before .before .before .before .before .before .before .before .before .loop3 .inv .0 in
+    let now = c .before .before .before .before .before .before .before .before .before .before .before .before .before .before .before .before .before .before .before .before .before .before .loop3 .s .tick + 1 in
+    let σ = systemOf (c .before .before .before .before .before .before .before .before .before .before .before .before .before .before .before .before .before .before .before .before .loop4 .s) in
+    let p = c .before .before .before .before .before .before .before .before .before .before .before .before .before .before .before .before .before .before .loop8 .p in
+    let i8 = c .before .before .before .before .before .before .before .before .before .before .before .before .before .before .before .before .before .before .loop8 .inv in
+    let hp : p < n = omega (arith, c .before .before .before .before .before .before .before .before .before .before .before .before .before .before .before .before .before .loop8-test .taken) in
+    let end = c .before .before .before .before .before .before .before .before .before .before .before .before .before .before .before .before .before .before .before .before .before .before .before .before .before .before .args .t2 .tick + c .before .before .before .before .before .before .before .before .before .before .before .before .before .before .before .before .before .before .before .before .before .before .before .before .before .before .args .t in
+    let test = c .before .before .before .before .before .before .before .before .before .before .before .before .before .before .before .timer-ends .ensures in
+    let ch : Turn n now σ end (c .before .before .before .before .before .before .before .before .before .before .before .before .before .before .before .before .before .before .loop8 .until) (c .before .before .before .before .before .before .before .before .before .before .before .before .before .before .if6 .s) (c .before .before .before .before .before .before .before .before .before .before .before .before .before .before .before .before .before .before .loop8 .busy) (p + 1) p p (8 * p) =
+    ⊎-elim
+    (λ w. turn-ends n now σ end _ (c .before .before .before .before .before .before .before .before .before .before .before .before .before .before .before .before .before .before .loop8 .s) _ p hp hn (i8 .2) _ _ (sym test ∙ w .0 .taken) (w .2 .ensures) (w .3))
+    (λ w. turn-stays n now σ end _ (c .before .before .before .before .before .before .before .before .before .before .before .before .before .before .before .before .before .before .loop8 .s) _ p hp hn (i8 .2) _ (sym test ∙ w .0 .left) (w .1))
+    (c .before .before .before .before .before .before .before .before .before .before .before .before .before .before .if6 .came) in
+    let x = c .before .before .before .before .before .before .before .loop9 .s in
+    let until = c .before .before .before .before .before .before .before .loop9 .until in
+    let q = c .before .before .before .before .before .before .before .loop9 .q in
+    let i9 = c .before .before .before .before .before .before .before .loop9 .inv in
+    let hq : q < n = omega (arith, c .before .before .before .before .before .before .loop9-test .taken) in
+    let says = chances-says n now σ _ _ p p _ (ch .chances) hp _ (c .before .before .before .before .before .before .before .before .before .before .before .sends-now .ensures) in
+    let free = chances-free n now σ until x p hp q hq (i9 .6 σ (ch .chances)) _ (c .before .before .before .before .ticks-of .ensures .0) (i9 .3) (c .before .before .before .if9 .taken) (sym says ∙ c .before .before .before .before .before .before .before .before .before .before .if8 .taken) _ (ap (λ (z : Station). z .recovered) (chances-station n now σ _ _ p p _ (ch .chances) hp)) _ (c .before .count2 .ensures) in
     omega (arith, free, c .before .count2 .ensures)
 
-loop7-again : tie.Need-loop7-again Inv-loop4 μ-loop4 Inv-loop5 μ-loop5 Inv-loop3 μ-loop3 Inv-loop2 μ-loop2 Inv-loop7 μ-loop7 Inv-loop6 μ-loop6 Inv-loop μ-loop
-loop7-again c =
-    let n = c .before .before .before .before .before .before .before .before .before .before .before .before .before .before .before .before .before .args .t2 .n in
-    let now = c .before .before .before .before .before .before .before .before .before .before .before .before .before .before .before .loop .s .tick + 1 in
-    let p = c .before .before .before .before .before .before .before .before .before .before .before .loop6 .p in
-    let i6 = c .before .before .before .before .before .before .before .before .before .before .before .loop6 .inv in
-    let before = i6 .4 in
-    let hp : p < n = omega (arith, c .before .before .before .before .before .before .before .before .before .before .loop6-test .taken) in
-    let x = c .before .before .before .before .loop7 .s in
-    let until = c .before .before .before .before .loop7 .until in
-    let q = c .before .before .before .before .loop7 .q in
-    let i7 = c .before .before .before .before .loop7 .inv in
+element-write-s-2 : tie.Need-element-write-s-2 Inv-loop2 μ-loop2 Inv-loop μ-loop Inv-loop6 μ-loop6 Inv-loop7 μ-loop7 Inv-loop5 μ-loop5 Inv-loop4 μ-loop4 Inv-loop9 μ-loop9 Inv-loop8 μ-loop8 Inv-loop3 μ-loop3
+element-write-s-2 c = search needs
+
+add-q-3 : tie.Need-add-q-3 Inv-loop2 μ-loop2 Inv-loop μ-loop Inv-loop6 μ-loop6 Inv-loop7 μ-loop7 Inv-loop5 μ-loop5 Inv-loop4 μ-loop4 Inv-loop9 μ-loop9 Inv-loop8 μ-loop8 Inv-loop3 μ-loop3
+add-q-3 c = search needs
+
+loop9-less : tie.Need-loop9-less Inv-loop2 μ-loop2 Inv-loop μ-loop Inv-loop6 μ-loop6 Inv-loop7 μ-loop7 Inv-loop5 μ-loop5 Inv-loop4 μ-loop4 Inv-loop9 μ-loop9 Inv-loop8 μ-loop8 Inv-loop3 μ-loop3
+loop9-less c = search needs
+
+loop9-again : tie.Need-loop9-again Inv-loop2 μ-loop2 Inv-loop μ-loop Inv-loop6 μ-loop6 Inv-loop7 μ-loop7 Inv-loop5 μ-loop5 Inv-loop4 μ-loop4 Inv-loop9 μ-loop9 Inv-loop8 μ-loop8 Inv-loop3 μ-loop3
+loop9-again c =
+    let n = c .before .before .before .before .before .before .before .before .before .before .before .before .before .before .before .before .before .before .before .before .before .before .before .args .t2 .n in
+    let hn : n ≤ 8 = c .before .before .before .before .before .before .before .before .before .before .before .before .before .before .before .before .before .before .before .loop3 .inv .0 in
+    let now = c .before .before .before .before .before .before .before .before .before .before .before .before .before .before .before .before .before .before .before .loop3 .s .tick + 1 in
+    let p = c .before .before .before .before .before .before .before .before .before .before .before .before .before .before .before .loop8 .p in
+    let hp : p < n = omega (arith, c .before .before .before .before .before .before .before .before .before .before .before .before .before .before .loop8-test .taken) in
+    let busy = set (c .before .before .before .before .before .before .before .before .before .before .before .before .before .before .before .loop8 .busy) p true in
+    let x = c .before .before .before .before .loop9 .s in
+    let until = c .before .before .before .before .loop9 .until in
+    let q = c .before .before .before .before .loop9 .q in
+    let i9 = c .before .before .before .before .loop9 .inv in
     let k = 8 * p + q in
-    let hq : q < n = omega (arith, c .before .before .before .loop7-test .taken) in
+    let hq : q < n = omega (arith, c .before .before .before .loop9-test .taken) in
     let d = c .before .ticks-of .result in
     let ed : d ≡ getD (x .delays) k 0 = c .before .ticks-of .ensures .0 in
-    let counts = getD (c .before .before .before .before .before .before .before .before .before .before .before .loop6 .s .stations) p noStation .recovered in
+    let counts = getD (c .before .before .before .before .before .before .before .before .before .before .before .if6 .s .stations) p noStation .recovered in
     ⊎-elim
     (λ w. (
       omega arith,
       rw (w .6) (w .4 .ensures .0),
-      omega (arith, w .6, w .4 .ensures .1, i7 .2),
-      subst Wide (sym (w .5)) (record { used = length-set (x .used) k _ ∙ i7 .3 .used; messages = length-set (x .messages) _ _ ∙ i7 .3 .messages }),
-      λ m₁ a.
-          let here = part-station n now m₁ _ _ p _ _ a in
-          message-sent n now m₁ until x p q hp hq (i7 .4 m₁ a) (i7 .3) d ed (w .0 .taken) (sym (c .before .before .before .before .before .before .before .before .sends-now .ensures ∙ ap (sendsNow (p + 1) now) here) ∙ c .before .before .before .before .before .before .before .if5 .taken) counts (ap (λ (z : Station). z .recovered) here)
+      omega (arith, w .6, w .4 .ensures .1, i9 .2),
+      subst Wide (sym (w .5)) (record { used = length-set (x .used) k _ ∙ i9 .3 .used; messages = length-set (x .messages) _ _ ∙ i9 .3 .messages }),
+      subst (λ (z : Layout). Silent n (z .used) busy (8 * n)) (sym (w .5)) (silent-stores n (x .used) busy (8 * n) hn (i9 .4) p q _ (omega (arith, hn, hq)) (i9 .5)),
+      i9 .5,
+      λ σ₁ a.
+          chances-sends n now σ₁ until x p hp q hq (i9 .6 σ₁ a) d ed (i9 .3) (w .0 .taken) (sym (chances-says n now σ₁ _ _ p p _ a hp _ (c .before .before .before .before .before .before .before .before .sends-now .ensures)) ∙ c .before .before .before .before .before .before .before .if8 .taken) counts (ap (λ (z : Station). z .recovered) (chances-station n now σ₁ _ _ p p _ a hp))
           _ (w .2 .ensures) _ _ _ _ (ap (λ (j : ℕ). j + 1) (sym (w .2 .ensures))) (w .5) (w .6) (w .4 .ensures .1) (w .4 .ensures .2),
     ))
     (λ w. (
       omega arith,
-      rw (w .2) (i7 .1),
-      omega (arith, w .2, i7 .2),
-      subst Wide (sym (w .1)) (i7 .3),
-      λ m₁ a. rw (ap systemOf (w .1), w .2) (part-skips n now m₁ until (systemOf x) p hp q hq (i7 .4 m₁ a) d ed (w .0 .left)),
+      rw (w .2) (i9 .1),
+      omega (arith, w .2, i9 .2),
+      subst Wide (sym (w .1)) (i9 .3),
+      subst (λ (z : Layout). Silent n (z .used) busy (8 * n)) (sym (w .1)) (i9 .4),
+      i9 .5,
+      λ σ₁ a. rw (w .2) (subst (λ (z : Layout). Chances n now σ₁ until z (p + 1) p p (8 * p + (q + 1))) (sym (w .1)) (chances-skips n now σ₁ until x p hp q hq (i9 .6 σ₁ a) d ed (w .0 .left))),
     ))
-    (c .if6 .came)
+    (c .if9 .came)
 
-sent-more-requires : tie.Need-sent-more-requires Inv-loop4 μ-loop4 Inv-loop5 μ-loop5 Inv-loop3 μ-loop3 Inv-loop2 μ-loop2 Inv-loop7 μ-loop7 Inv-loop6 μ-loop6 Inv-loop μ-loop
+element-copy-out-sent-more : tie.Need-element-copy-out-sent-more Inv-loop2 μ-loop2 Inv-loop μ-loop Inv-loop6 μ-loop6 Inv-loop7 μ-loop7 Inv-loop5 μ-loop5 Inv-loop4 μ-loop4 Inv-loop9 μ-loop9 Inv-loop8 μ-loop8 Inv-loop3 μ-loop3
+element-copy-out-sent-more c = search needs
+
+sent-more-requires : tie.Need-sent-more-requires Inv-loop2 μ-loop2 Inv-loop μ-loop Inv-loop6 μ-loop6 Inv-loop7 μ-loop7 Inv-loop5 μ-loop5 Inv-loop4 μ-loop4 Inv-loop9 μ-loop9 Inv-loop8 μ-loop8 Inv-loop3 μ-loop3
 sent-more-requires c κs =
-    let n = c .before .before .before .before .before .before .before .before .before .before .before .before .before .before .before .args .t2 .n in
-    let now = c .before .before .before .before .before .before .before .before .before .before .before .before .before .loop .s .tick + 1 in
-    let m = systemOf (c .before .before .before .before .before .before .before .before .before .before .before .loop2 .s) in
-    let p = c .before .before .before .before .before .before .before .before .before .loop6 .p in
-    let i6 = c .before .before .before .before .before .before .before .before .before .loop6 .inv in
-    let before = i6 .4 in
-    let hp : p < n = omega (arith, c .before .before .before .before .before .before .before .before .loop6-test .taken) in
-    let x = c .before .before .loop7 .s in
-    let until = c .before .before .loop7 .until in
-    let i7 = c .before .before .loop7 .inv in
-    let part′ = i7 .4 m before in
-    let same = part-n n now m until (systemOf x) p _ _ part′ in
-    (omega (arith, same, part′ .mid .size, part′ .mid .n-low), omega (arith, same, part′ .mid .size, part′ .mid .n-high), rw (part-sent n now m until (systemOf x) p _ _ part′) (part′ .mid .sent-low p hp))
+    let n = c .before .before .before .before .before .before .before .before .before .before .before .before .before .before .before .before .before .before .before .before .before .args .t2 .n in
+    let hn : n ≤ 8 = c .before .before .before .before .before .before .before .before .before .before .before .before .before .before .before .before .before .loop3 .inv .0 in
+    let now = c .before .before .before .before .before .before .before .before .before .before .before .before .before .before .before .before .before .loop3 .s .tick + 1 in
+    let σ = systemOf (c .before .before .before .before .before .before .before .before .before .before .before .before .before .before .before .loop4 .s) in
+    let p = c .before .before .before .before .before .before .before .before .before .before .before .before .before .loop8 .p in
+    let i8 = c .before .before .before .before .before .before .before .before .before .before .before .before .before .loop8 .inv in
+    let hp : p < n = omega (arith, c .before .before .before .before .before .before .before .before .before .before .before .before .loop8-test .taken) in
+    let end = c .before .before .before .before .before .before .before .before .before .before .before .before .before .before .before .before .before .before .before .before .before .args .t2 .tick + c .before .before .before .before .before .before .before .before .before .before .before .before .before .before .before .before .before .before .before .before .before .args .t in
+    let test = c .before .before .before .before .before .before .before .before .before .before .timer-ends .ensures in
+    let ch : Turn n now σ end (c .before .before .before .before .before .before .before .before .before .before .before .before .before .loop8 .until) (c .before .before .before .before .before .before .before .before .before .if6 .s) (c .before .before .before .before .before .before .before .before .before .before .before .before .before .loop8 .busy) (p + 1) p p (8 * p) =
+    ⊎-elim
+    (λ w. turn-ends n now σ end _ (c .before .before .before .before .before .before .before .before .before .before .before .before .before .loop8 .s) _ p hp hn (i8 .2) _ _ (sym test ∙ w .0 .taken) (w .2 .ensures) (w .3))
+    (λ w. turn-stays n now σ end _ (c .before .before .before .before .before .before .before .before .before .before .before .before .before .loop8 .s) _ p hp hn (i8 .2) _ (sym test ∙ w .0 .left) (w .1))
+    (c .before .before .before .before .before .before .before .before .before .if6 .came) in
+    let x = c .before .before .loop9 .s in
+    let until = c .before .before .loop9 .until in
+    let i9 = c .before .before .loop9 .inv in
+    let part′ = i9 .6 σ (ch .chances) in
+    let same = chances-n n now σ until x p p _ part′ hp in
+    (omega (arith, same, part′ .part .mid .size, part′ .part .mid .n-low), omega (arith, same, part′ .part .mid .size, part′ .part .mid .n-high), rw (chances-sent n now σ until x p p _ part′ hp) (part′ .part .mid .sent-low p hp))
 
-slot-requires : tie.Need-slot-requires Inv-loop4 μ-loop4 Inv-loop5 μ-loop5 Inv-loop3 μ-loop3 Inv-loop2 μ-loop2 Inv-loop7 μ-loop7 Inv-loop6 μ-loop6 Inv-loop μ-loop
+slot-requires : tie.Need-slot-requires Inv-loop2 μ-loop2 Inv-loop μ-loop Inv-loop6 μ-loop6 Inv-loop7 μ-loop7 Inv-loop5 μ-loop5 Inv-loop4 μ-loop4 Inv-loop9 μ-loop9 Inv-loop8 μ-loop8 Inv-loop3 μ-loop3
 slot-requires c κs =
-    let n = c .before .before .before .before .before .before .before .before .before .before .before .before .args .t2 .n in
-    let now = c .before .before .before .before .before .before .before .before .before .before .loop .s .tick + 1 in
-    let m = systemOf (c .before .before .before .before .before .before .before .before .loop2 .s) in
-    let p = c .before .before .before .before .before .before .loop6 .p in
-    let i6 = c .before .before .before .before .before .before .loop6 .inv in
-    let before = i6 .4 in
-    let hp : p < n = omega (arith, c .before .before .before .before .before .loop6-test .taken) in
-    let hp8 : p < 8 = omega (arith, c .before .before .before .before .before .before .before .before .before .before .loop .inv .0) in
-    let says = c .before .before .before .sends-now .ensures ∙ ap (sendsNow (p + 1) now) (part-station n now m _ _ p _ _ before) in
-    let row : Part n now m (c .before .before .if5 .until) (systemOf (c .before .before .if5 .s)) p (p + 1) (8 * (p + 1)) =
+    let n = c .before .before .before .before .before .before .before .before .before .before .before .before .before .before .before .before .before .args .t2 .n in
+    let hn : n ≤ 8 = c .before .before .before .before .before .before .before .before .before .before .before .before .before .loop3 .inv .0 in
+    let now = c .before .before .before .before .before .before .before .before .before .before .before .before .before .loop3 .s .tick + 1 in
+    let σ = systemOf (c .before .before .before .before .before .before .before .before .before .before .before .loop4 .s) in
+    let p = c .before .before .before .before .before .before .before .before .before .loop8 .p in
+    let i8 = c .before .before .before .before .before .before .before .before .before .loop8 .inv in
+    let hp : p < n = omega (arith, c .before .before .before .before .before .before .before .before .loop8-test .taken) in
+    let end = c .before .before .before .before .before .before .before .before .before .before .before .before .before .before .before .before .before .args .t2 .tick + c .before .before .before .before .before .before .before .before .before .before .before .before .before .before .before .before .before .args .t in
+    let test = c .before .before .before .before .before .before .timer-ends .ensures in
+    let ch : Turn n now σ end (c .before .before .before .before .before .before .before .before .before .loop8 .until) (c .before .before .before .before .before .if6 .s) (c .before .before .before .before .before .before .before .before .before .loop8 .busy) (p + 1) p p (8 * p) =
     ⊎-elim
-    (λ w.
-    let zq : w .3 .q ≡ n = omega (arith, w .4 .left, w .3 .inv .0) in
-    rw (w .8)
-    (part-counts n now m (w .3 .until) (systemOf (w .3 .s)) p p _ (part-row n now m (w .3 .until) (systemOf (w .3 .s)) p hp (rw zq at (w .3 .inv .4 m before))) _ _ hp8 (sym says ∙ w .0 .taken) (w .6 .ensures) (ap systemOf (w .7))))
-    (λ w. (let silent = sym says ∙ w .0 .left in rw (ap systemOf (w .1), w .2) (part-silent n now m _ _ p p _ (part-rests n now m _ _ p hp before silent) hp8 silent)))
-    (c .before .before .if5 .came) in
-    (rw (part-period n now m _ _ p _ _ row) (row .mid .period-high), row .mid .early)
+    (λ w. turn-ends n now σ end _ (c .before .before .before .before .before .before .before .before .before .loop8 .s) _ p hp hn (i8 .2) _ _ (sym test ∙ w .0 .taken) (w .2 .ensures) (w .3))
+    (λ w. turn-stays n now σ end _ (c .before .before .before .before .before .before .before .before .before .loop8 .s) _ p hp hn (i8 .2) _ (sym test ∙ w .0 .left) (w .1))
+    (c .before .before .before .before .before .if6 .came) in
+    let row : Turn n now σ end (c .before .if8 .until) (c .before .if8 .s) (c .before .if8 .busy) (p + 1) p (p + 1) (8 * (p + 1)) =
+    let says = chances-says n now σ _ _ p p _ (ch .chances) hp _ (c .before .before .sends-now .ensures) in
+    ⊎-elim
+    (λ v.
+    let zq : v .3 .q ≡ n = omega (arith, v .4 .left, v .3 .inv .0) in
+    let i9 = v .3 .inv in
+    turn-sends n now σ end (v .3 .until) (v .3 .s) (set (c .before .before .before .before .before .before .before .before .before .loop8 .busy) p true) p hp hn (v .3 .q) zq (record { high = i9 .2; wide = i9 .3; silent = i9 .4; chances = i9 .6 σ (ch .chances) }) (sym says ∙ v .0 .taken) _ _ _ _ (v .6 .ensures) (v .7) (v .8) (v .9))
+    (λ v. turn-rests n now σ end _ _ _ p hp hn ch (sym says ∙ v .0 .left) _ _ _ (v .1) (v .2) (v .3))
+    (c .before .if8 .came) in
+    (rw (chances-period n now σ _ _ p _ _ (row .chances) hp) (row .chances .part .mid .period-high), row .chances .part .mid .early)
 
-quiet-station-requires : tie.Need-quiet-station-requires Inv-loop4 μ-loop4 Inv-loop5 μ-loop5 Inv-loop3 μ-loop3 Inv-loop2 μ-loop2 Inv-loop7 μ-loop7 Inv-loop6 μ-loop6 Inv-loop μ-loop
+quiet-station-requires : tie.Need-quiet-station-requires Inv-loop2 μ-loop2 Inv-loop μ-loop Inv-loop6 μ-loop6 Inv-loop7 μ-loop7 Inv-loop5 μ-loop5 Inv-loop4 μ-loop4 Inv-loop9 μ-loop9 Inv-loop8 μ-loop8 Inv-loop3 μ-loop3
 quiet-station-requires c κs =
-    let now = c .before .before .before .before .before .before .before .before .before .before .loop .s .tick + 1 in
-    let i6 = c .before .before .before .before .before .before .loop6 .inv in
-    let before = i6 .4 in
-    let low : now ≤ c .before .before .if5 .until = ⊎-elim (λ w. rw (w .8) (w .3 .inv .1)) (λ w. rw (w .2) (i6 .1)) (c .before .before .if5 .came) in
-    low
-
-loop6-again : tie.Need-loop6-again Inv-loop4 μ-loop4 Inv-loop5 μ-loop5 Inv-loop3 μ-loop3 Inv-loop2 μ-loop2 Inv-loop7 μ-loop7 Inv-loop6 μ-loop6 Inv-loop μ-loop
-loop6-again c =
-    let n = c .before .before .before .before .before .before .before .before .before .before .before .before .before .args .t2 .n in
-    let now = c .before .before .before .before .before .before .before .before .before .before .before .loop .s .tick + 1 in
-    let m = systemOf (c .before .before .before .before .before .before .before .before .before .loop2 .s) in
-    let p = c .before .before .before .before .before .before .before .loop6 .p in
-    let i6 = c .before .before .before .before .before .before .before .loop6 .inv in
-    let before = i6 .4 in
-    let hp : p < n = omega (arith, c .before .before .before .before .before .before .loop6-test .taken) in
-    let hp8 : p < 8 = omega (arith, c .before .before .before .before .before .before .before .before .before .before .before .loop .inv .0) in
-    let says = c .before .before .before .before .sends-now .ensures ∙ ap (sendsNow (p + 1) now) (part-station n now m _ _ p _ _ before) in
-    let row : Part n now m (c .before .before .before .if5 .until) (systemOf (c .before .before .before .if5 .s)) p (p + 1) (8 * (p + 1)) =
+    let i8 = c .before .before .before .before .before .before .loop8 .inv in
     ⊎-elim
-    (λ w.
-    let zq : w .3 .q ≡ n = omega (arith, w .4 .left, w .3 .inv .0) in
-    rw (w .8)
-    (part-counts n now m (w .3 .until) (systemOf (w .3 .s)) p p _ (part-row n now m (w .3 .until) (systemOf (w .3 .s)) p hp (rw zq at (w .3 .inv .4 m before))) _ _ hp8 (sym says ∙ w .0 .taken) (w .6 .ensures) (ap systemOf (w .7))))
-    (λ w. (let silent = sym says ∙ w .0 .left in rw (ap systemOf (w .1), w .2) (part-silent n now m _ _ p p _ (part-rests n now m _ _ p hp before silent) hp8 silent)))
-    (c .before .before .before .if5 .came) in
-    let high : c .before .before .before .if5 .until ≤ c .before .before .before .before .before .before .before .before .before .before .before .before .before .args .t2 .tick + c .before .before .before .before .before .before .before .before .before .before .before .before .before .args .t = ⊎-elim (λ w. rw (w .8) (w .3 .inv .2)) (λ w. rw (w .2) (i6 .2)) (c .before .before .before .if5 .came) in
-    let wide : Wide (c .before .before .before .if5 .s) = ⊎-elim (λ w. subst Wide (sym (w .7)) (record { used = w .3 .inv .3 .used; messages = w .3 .inv .3 .messages })) (λ w. subst Wide (sym (w .1)) (i6 .3)) (c .before .before .before .if5 .came) in
+    (λ w. rw (w .8) (⊎-elim (λ v. rw (v .9) (v .3 .inv .1)) (λ v. rw (v .3) (i8 .1)) (w .3 .came)))
+    (λ w. rw (w .3) (i8 .1))
+    (c .before .if7 .came)
+
+loop8-again : tie.Need-loop8-again Inv-loop2 μ-loop2 Inv-loop μ-loop Inv-loop6 μ-loop6 Inv-loop7 μ-loop7 Inv-loop5 μ-loop5 Inv-loop4 μ-loop4 Inv-loop9 μ-loop9 Inv-loop8 μ-loop8 Inv-loop3 μ-loop3
+loop8-again c =
+    let n = c .before .before .before .before .before .before .before .before .before .before .before .before .before .before .before .args .t2 .n in
+    let hn : n ≤ 8 = c .before .before .before .before .before .before .before .before .before .before .before .loop3 .inv .0 in
+    let now = c .before .before .before .before .before .before .before .before .before .before .before .loop3 .s .tick + 1 in
+    let σ = systemOf (c .before .before .before .before .before .before .before .before .before .loop4 .s) in
+    let p = c .before .before .before .before .before .before .before .loop8 .p in
+    let i8 = c .before .before .before .before .before .before .before .loop8 .inv in
+    let hp : p < n = omega (arith, c .before .before .before .before .before .before .loop8-test .taken) in
+    let end = c .before .before .before .before .before .before .before .before .before .before .before .before .before .before .before .args .t2 .tick + c .before .before .before .before .before .before .before .before .before .before .before .before .before .before .before .args .t in
+    let test = c .before .before .before .before .timer-ends .ensures in
+    let ch : Turn n now σ end (c .before .before .before .before .before .before .before .loop8 .until) (c .before .before .before .if6 .s) (c .before .before .before .before .before .before .before .loop8 .busy) (p + 1) p p (8 * p) =
+    ⊎-elim
+    (λ w. turn-ends n now σ end _ (c .before .before .before .before .before .before .before .loop8 .s) _ p hp hn (i8 .2) _ _ (sym test ∙ w .0 .taken) (w .2 .ensures) (w .3))
+    (λ w. turn-stays n now σ end _ (c .before .before .before .before .before .before .before .loop8 .s) _ p hp hn (i8 .2) _ (sym test ∙ w .0 .left) (w .1))
+    (c .before .before .before .if6 .came) in
     let quiet = c .quiet-station .ensures in
     ⊎-elim
-    (λ w. (
-      omega arith,
-      quiet .0,
-      omega (arith, quiet .1, high),
-      subst Wide (sym (w .3)) (record { used = wide .used; messages = wide .messages }),
-      part-slots n now m _ _ p _ _ row _ _ _ hp8 (quiet .1) (w .0 .taken) (w .2 .ensures) (ap systemOf (w .3)) (quiet .2),
-    ))
-    (λ w. (
-      omega arith,
-      quiet .0,
-      omega (arith, quiet .1, high),
-      subst Wide (sym (w .1)) wide,
-      part-waits n now m _ _ p _ _ row _ _ hp8 (quiet .1) (w .0 .left) (ap systemOf (w .1)) (quiet .2),
-    ))
+    (λ w.
+    let row : Turn n now σ end (w .3 .until) (w .3 .s) (w .3 .busy) (p + 1) p (p + 1) (8 * (p + 1)) =
+    let says = chances-says n now σ _ _ p p _ (ch .chances) hp _ (w .2 .ensures) in
+    ⊎-elim
+    (λ v.
+    let zq : v .3 .q ≡ n = omega (arith, v .4 .left, v .3 .inv .0) in
+    let i9 = v .3 .inv in
+    turn-sends n now σ end (v .3 .until) (v .3 .s) (set (c .before .before .before .before .before .before .before .loop8 .busy) p true) p hp hn (v .3 .q) zq (record { high = i9 .2; wide = i9 .3; silent = i9 .4; chances = i9 .6 σ (ch .chances) }) (sym says ∙ v .0 .taken) _ _ _ _ (v .6 .ensures) (v .7) (v .8) (v .9))
+    (λ v. turn-rests n now σ end _ _ _ p hp hn ch (sym says ∙ v .0 .left) _ _ _ (v .1) (v .2) (v .3))
+    (w .3 .came) in
+    (omega arith, quiet .0, turn-slots n now σ end (w .3 .until) (w .3 .s) (w .3 .busy) p hp hn _ _ row _ _ _ _ (w .8) (quiet .1) (w .7) (quiet .2) _ _ (chances-station n now σ _ _ p p _ (ch .chances) hp) (w .0 .taken) (w .5 .ensures) (w .6)))
+    (λ w.
+    let row = turn-rests n now σ end _ _ _ p hp hn ch (chances-late n now σ _ _ p p _ (ch .chances) hp (w .0 .left)) _ _ _ refl refl refl in
+    (omega arith, quiet .0, turn-waits n now σ end _ _ _ p hp hn _ _ row _ _ _ _ (w .3) (quiet .1) (w .2) (quiet .2) (w .0 .left) (w .1)))
     (c .before .before .if7 .came)
 
-loop-again : tie.Need-loop-again Inv-loop4 μ-loop4 Inv-loop5 μ-loop5 Inv-loop3 μ-loop3 Inv-loop2 μ-loop2 Inv-loop7 μ-loop7 Inv-loop6 μ-loop6 Inv-loop μ-loop
+loop3-again : tie.Need-loop3-again Inv-loop2 μ-loop2 Inv-loop μ-loop Inv-loop6 μ-loop6 Inv-loop7 μ-loop7 Inv-loop5 μ-loop5 Inv-loop4 μ-loop4 Inv-loop9 μ-loop9 Inv-loop8 μ-loop8 Inv-loop3 μ-loop3
 unfolding atTick
-loop-again c =
-    let i = c .before .before .before .before .before .loop .inv in
-    let i2 = c .before .before .before .loop2 .inv in
-    let r = systemOf (c .before .before .before .before .before .loop .s) in
-    let n = c .before .before .before .before .before .before .before .args .t2 .n in
-    let zp : c .before .before .before .loop2 .p ≡ n = omega (arith, i2 .0, c .before .before .loop2-test .left) in
-    let parts = c .before .loop6 .inv in
-    let zq : c .before .loop6 .p ≡ n = omega (arith, parts .0, c .loop6-test .left) in
-    let tick = run-tick r n _ _ (systemOf (c .before .before .before .loop2 .s)) (length-links _ _) (i2 .4) zp (i2 .5) (systemOf (c .before .loop6 .s)) (c .before .loop6 .until) _ zq (parts .4) in
-    let calm = run-calm r n _ _ (systemOf (c .before .before .before .loop2 .s)) (length-links _ _) (i2 .4) zp (i2 .5) (systemOf (c .before .loop6 .s)) (c .before .loop6 .until) _ zq (parts .4) in
-    (i .0, i .1, parts .2, subst (Going _ _) (sym tick) (going-on _ _ r (i .3) (c .before .before .before .before .loop-test .taken) _ (parts .1) (parts .2) calm), record { used = parts .3 .used; messages = parts .3 .messages })
+loop3-again c =
+    let i = c .before .before .before .before .before .loop3 .inv in
+    let i4 = c .before .before .before .loop4 .inv in
+    let r = systemOf (c .before .before .before .before .before .loop3 .s) in
+    let n = c .before .before .before .before .before .before .before .before .before .args .t2 .n in
+    let σ = systemOf (c .before .before .before .loop4 .s) in
+    let zq : c .before .before .before .loop4 .q ≡ n = omega (arith, i4 .0, c .before .before .loop4-test .left) in
+    let parts = c .before .loop8 .inv in
+    let zp : c .before .loop8 .p ≡ n = omega (arith, parts .0, c .loop8-test .left) in
+    let all = chances-done n _ σ _ (c .before .loop8 .s) _ (parts .2 .chances) zp (i .0) in
+    let tick = run-tick r n _ _ σ (length-links _ _) (i4 .4) zq (i4 .5) (systemOf (c .before .loop8 .s)) (c .before .loop8 .until) all in
+    let calm = run-calm r n _ _ σ (length-links _ _) (i4 .4) zq (i4 .5) (systemOf (c .before .loop8 .s)) (c .before .loop8 .until) all in
+    (i .0, i .1, parts .2 .high, subst (Going _ _) (sym tick) (going-on _ _ r (i .3) (c .before .before .before .before .loop3-test .taken) _ (parts .1) (parts .2 .high) calm), record { used = parts .2 .wide .used; messages = parts .2 .wide .messages }, parts .2 .silent)
 
-returns : tie.Need-returns Inv-loop4 μ-loop4 Inv-loop5 μ-loop5 Inv-loop3 μ-loop3 Inv-loop2 μ-loop2 Inv-loop7 μ-loop7 Inv-loop6 μ-loop6 Inv-loop μ-loop
+returns : tie.Need-returns Inv-loop2 μ-loop2 Inv-loop μ-loop Inv-loop6 μ-loop6 Inv-loop7 μ-loop7 Inv-loop5 μ-loop5 Inv-loop4 μ-loop4 Inv-loop9 μ-loop9 Inv-loop8 μ-loop8 Inv-loop3 μ-loop3
 returns c =
-    going-done _ _ _ (c .before .loop .inv .3) (c .loop-test .left)
+    going-done _ _ _ (c .before .loop3 .inv .3) (c .loop3-test .left)
 
 pub run-spec : {M : Type 1} → statement M
 run-spec =
     tie.close
     (tie.spec
-    Inv-loop4
-    μ-loop4
-    Inv-loop5
-    μ-loop5
-    Inv-loop3
-    μ-loop3
     Inv-loop2
     μ-loop2
-    Inv-loop7
-    μ-loop7
-    Inv-loop6
-    μ-loop6
     Inv-loop
     μ-loop
+    Inv-loop6
+    μ-loop6
+    Inv-loop7
+    μ-loop7
+    Inv-loop5
+    μ-loop5
+    Inv-loop4
+    μ-loop4
+    Inv-loop9
+    μ-loop9
+    Inv-loop8
+    μ-loop8
+    Inv-loop3
+    μ-loop3
     (λ c. search needs)
     (λ c. search needs)
     (λ c κs. search needs)
     loop-holds
-    (λ c. search needs)
     loop2-holds
+    (λ c. search needs)
+    (λ c. search needs)
+    (λ c. search needs)
+    (λ c. search needs)
+    (λ c. search needs)
+    (λ c. search needs)
+    loop2-again
+    (λ c. search needs)
+    (λ c. search needs)
+    loop-again
     loop3-holds
-    (λ c. search needs)
-    (λ c. search needs)
-    (λ c. search needs)
-    (λ c κs. search needs)
-    (λ c. search needs)
     (λ c. search needs)
     loop4-holds
     (λ c. search needs)
+    loop5-holds
     (λ c. search needs)
     (λ c. search needs)
     (λ c. search needs)
     (λ c κs. search needs)
+    loop6-holds
+    (λ c. search needs)
+    (λ c. search needs)
+    (λ c. search needs)
+    (λ c. search needs)
+    (λ c κs. search needs)
+    (λ c. search needs)
+    (λ c. search needs)
+    (λ c. search needs)
+    (λ c. search needs)
+    (λ c. search needs)
+    (λ c. search needs)
+    (λ c. search needs)
+    (λ c. search needs)
+    (λ c. search needs)
+    (λ c. search needs)
+    (λ c. search needs)
+    (λ c. search needs)
     (λ c. search needs)
     (λ c. search needs)
     (λ c. search needs)
@@ -582,10 +742,17 @@ run-spec =
     hear-requires
     (λ c. search needs)
     (λ c. search needs)
-    loop4-again
-    loop5-holds
     (λ c. search needs)
     (λ c. search needs)
+    loop6-again
+    loop7-holds
+    (λ c. search needs)
+    (λ c. search needs)
+    (λ c. search needs)
+    (λ c. search needs)
+    (λ c. search needs)
+    (λ c. search needs)
+    loop7-again
     (λ c. search needs)
     (λ c. search needs)
     (λ c. search needs)
@@ -594,10 +761,8 @@ run-spec =
     (λ c. search needs)
     (λ c. search needs)
     (λ c. search needs)
-    (λ c. search needs)
-    (λ c. search needs)
-    (λ c. search needs)
-    loop3-again
+    loop4-again
+    loop8-holds
     (λ c. search needs)
     (λ c. search needs)
     (λ c κs. search needs)
@@ -610,8 +775,6 @@ run-spec =
     (λ c. search needs)
     (λ c. search needs)
     (λ c. search needs)
-    loop2-again
-    loop6-holds
     (λ c. search needs)
     (λ c. search needs)
     (λ c. search needs)
@@ -619,30 +782,29 @@ run-spec =
     (λ c κs. search needs)
     (λ c. search needs)
     (λ c. search needs)
-    loop7-holds
+    (λ c. search needs)
+    loop9-holds
     (λ c. search needs)
     (λ c. search needs)
     (λ c. search needs)
     (λ c κs. search needs)
-    (λ c. search needs)
+    element-copy-out-count-2
     (λ c κs. search needs)
-    add-due
-    (λ c. search needs)
-    add-t108
-    mul-t109
-    element-set-from-s-2
-    (λ c. search needs)
-    add-s
-    (λ c. search needs)
+    add-due-2
+    mul-t144
+    add-t145
+    mul-t146
+    element-set-from-s-4
+    element-copy-out-s-2
+    add-s-2
+    element-write-s-2
     (λ c κs. search needs)
+    add-q-3
+    loop9-less
+    loop9-again
     (λ c. search needs)
-    (λ c. search needs)
-    loop7-again
-    (λ c. search needs)
-    (λ c. search needs)
+    element-copy-out-sent-more
     sent-more-requires
-    (λ c. search needs)
-    (λ c. search needs)
     (λ c. search needs)
     (λ c. search needs)
     (λ c. search needs)
@@ -655,7 +817,7 @@ run-spec =
     quiet-station-requires
     (λ c. search needs)
     (λ c. search needs)
-    loop6-again
+    loop8-again
     (λ c. search needs)
-    loop-again
+    loop3-again
     returns)
