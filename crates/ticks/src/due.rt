@@ -1,4 +1,4 @@
-// Up to which tick nothing of a station or of a link is due.
+// Up to which tick nothing of a station is due.
 ghost use mathlib.Core.Path.{_≡_};
 ghost use mathlib.Core.Bool.{true};
 ghost use Prim.Native.Nat.{ℕ, _<_, _≤_};

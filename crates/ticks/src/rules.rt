@@ -41,6 +41,7 @@ pub fn run(t: u32, mut s: Layout) -> Layout
     let end = s.tick + t;
     let n = s.n as usize;
     let empty = unused();
+    // whether a station may have messages under way
     let mut busy = [false; 8];
     for q in 0..n {
         for p in 0..n {
