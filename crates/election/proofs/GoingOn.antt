@@ -5,11 +5,9 @@ use mathlib.Core.List.{List, [], _∷_, _++_, append-assoc}
 use mathlib.Core.Bool.{Bool, true, false, cond, _&&_, true≢false}
 use Prim.Native.Nat.{ℕ, zero, suc, _+_, _-_, _<_, _≤_}
 use native.Mathlib.Decide.{ℕ-discrete, decLt}
-use native.Mathlib.Nat.{add-zero}
 use native.Mathlib.Omega.{arith}
 use lib.Dec.{ltb, eqb}
 use lib.ListN.{length, getD, drop}
-use lib.Seq.{getD-drop}
 use borrow.Author.Tests.{eq-eqb, ne-eqb, lt-ltb, le-ltb}
 use Rattle.lists.proofs.Bools.{both, cond-yes, cond-no}
 use Rattle.election.specs.Commands.{command}
@@ -53,10 +51,6 @@ onward-walks list =
       refused = λ fuel s at b bytes ne. fun-ext (λ room. rw (ne-eqb (command s (b ∷ bytes) .refusal) 0 ne, onward));
       accepted = λ fuel s at b bytes t. fun-ext (λ room. rw (eq-eqb (command s (b ∷ bytes) .refusal) 0 t, onward) (chosen (toList list (b ∷ bytes) && ltb room longestListing) _ _));
     }
-
--- the bytes from an offset begin with the byte there
-first-byte : (at : ℕ) (bytes : List ℕ) → getD (drop at bytes) 0 0 ≡ getD bytes at 0
-first-byte at bytes = getD-drop at bytes 0 0 ∙ ap (λ i. getD bytes i 0) (add-zero at)
 
 module _ (list : Bool) (room : ℕ) (s : System) (at : ℕ) (bytes : List ℕ) where
   pub go-end : length bytes ≤ at → goOn list room s at bytes ≡ halted s at

@@ -19,7 +19,7 @@ use Rattle.election.specs.declared.System.{System}
 use Rattle.ticks.specs.Sending.{Ticking, hears}
 use Rattle.ticks.proofs.After.{no-sender, no-receiver, linked, self}
 use Rattle.ticks.proofs.Hearing.{Hearing, hearing-turn, hearing-skips}
-use Rattle.ticks.proofs.Hearing as S
+use Rattle.ticks.proofs.Hearing as hearing
 use Rattle.ticks.proofs.InPlace.{Packing, Heard, Beside, kept-stored, kept-calm}
 use Rattle.ticks.proofs.Ready.{is, used-at, unused-self}
 
@@ -209,7 +209,7 @@ module _ (n now p q : ℕ) (hn : n ≤ 8) (hp : p < n) (hq : q < n) (x s₁ s₂
         → Beside p (x .stations) (s₁ .stations) → Hearing r n (p + 1) q (systemOf y)
     link-heard b tick h side =
         hearing-turn r n p q (systemOf x) b hp (systemOf y) now
-        (ap (withLinks (r .links)) stored ∙ ap (λ (w : System). S.withStations (s₁ .stations) w) (b .same) ∙ ap (λ xs. S.withStations xs r) (sym stations-are))
+        (ap (withLinks (r .links)) stored ∙ ap (λ (w : System). hearing.withStations (s₁ .stations) w) (b .same) ∙ ap (λ xs. hearing.withStations xs r) (sym stations-are))
         (ap length stations-are ∙ side .long ∙ b .long) (λ j ne. ap (λ xs. getD xs j noStation) stations-are ∙ side .others j ne) tick
         (ap (λ xs. getD xs p noStation) stations-are ∙ h .is
         ∙ ap (λ ms. hears (p + 1) (q + 1) now ms (getD (x .stations) p noStation)) (sym (messages-read x (8 * q + p) k-low u e) ∙ ap messages (taken-old n now r until (systemOf x .links) p q hn hp hq a)))

@@ -154,12 +154,15 @@ loop6-holds c =
     let p = c .before .before .before .before .loop5 .p in
     let x = c .before .before .before .before .loop5 .s in
     let i5 = c .before .before .before .before .loop5 .inv in
-    let taken = i5 .6 r (i4 .4) (i4 .5) .0 in
+    let gone = i5 .6 r (i4 .4) (i4 .5) .0 in
     let hq : q < n = omega (arith, c .before .before .before .before .before .before .loop4-test .taken) in
     let hp : p < n = omega (arith, c .before .before .before .loop5-test .taken) in
     let k = 8 * q + p in
     let hk : k < 64 = omega (arith, i .0, hp, hq) in
-    (search needs, omega (arith, taken-few n now r _ _ p q (i .0) hp hq taken, used-read x k hk, c .before .count .ensures), i5 .1, omega arith, omega arith, packing-none _ _ _ _ (i5 .3), heard-first _ _ _ _ _, beside-none _ _, λ e. (e, refl))
+    (search needs, omega (arith, taken-few n now r _ _ p q (i .0) hp hq gone, used-read x k hk, c .before .count .ensures), i5 .1, omega arith, omega arith, packing-none _ _ _ _ (i5 .3), heard-first _ _ _ _ _, beside-none _ _, λ e. (e, refl))
+
+element-copy-out-m : tie.Need-element-copy-out-m Inv-loop2 μ-loop2 Inv-loop μ-loop Inv-loop6 μ-loop6 Inv-loop7 μ-loop7 Inv-loop5 μ-loop5 Inv-loop4 μ-loop4 Inv-loop9 μ-loop9 Inv-loop8 μ-loop8 Inv-loop3 μ-loop3
+element-copy-out-m c = search needs
 
 hear-requires : tie.Need-hear-requires Inv-loop2 μ-loop2 Inv-loop μ-loop Inv-loop6 μ-loop6 Inv-loop7 μ-loop7 Inv-loop5 μ-loop5 Inv-loop4 μ-loop4 Inv-loop9 μ-loop9 Inv-loop8 μ-loop8 Inv-loop3 μ-loop3
 hear-requires c κs =
@@ -171,7 +174,6 @@ hear-requires c κs =
     let p = c .before .before .before .before .before .before .before .before .before .before .before .loop5 .p in
     let x = c .before .before .before .before .before .before .before .before .before .before .before .loop5 .s in
     let i5 = c .before .before .before .before .before .before .before .before .before .before .before .loop5 .inv in
-    let taken = i5 .6 r (i4 .4) (i4 .5) .0 in
     let so = i5 .6 r (i4 .4) (i4 .5) .1 in
     let ticking = going-ticking _ _ r (i .3) (c .before .before .before .before .before .before .before .before .before .before .before .before .before .before .before .loop3-test .taken) in
     let hq′ : q < r .n = omega (arith, i .3 .size) in
@@ -189,7 +191,6 @@ loop6-again c =
     let p = c .before .before .before .before .before .before .before .loop5 .p in
     let x = c .before .before .before .before .before .before .before .loop5 .s in
     let i5 = c .before .before .before .before .before .before .before .loop5 .inv in
-    let taken = i5 .6 r (i4 .4) (i4 .5) .0 in
     let so = i5 .6 r (i4 .4) (i4 .5) .1 in
     let hq : q < n = omega (arith, c .before .before .before .before .before .before .before .before .before .loop4-test .taken) in
     let hp : p < n = omega (arith, c .before .before .before .before .before .before .loop5-test .taken) in
@@ -266,7 +267,6 @@ loop5-again c =
     let p = c .before .before .before .before .loop5 .p in
     let x = c .before .before .before .before .loop5 .s in
     let i5 = c .before .before .before .before .loop5 .inv in
-    let taken = i5 .6 r (i4 .4) (i4 .5) .0 in
     let hq : q < n = omega (arith, c .before .before .before .before .before .before .loop4-test .taken) in
     let hp : p < n = omega (arith, c .before .before .before .loop5-test .taken) in
     let k = 8 * q + p in
@@ -389,9 +389,6 @@ element-copy-out-count-2 c = search needs
 add-due-2 : tie.Need-add-due-2 Inv-loop2 μ-loop2 Inv-loop μ-loop Inv-loop6 μ-loop6 Inv-loop7 μ-loop7 Inv-loop5 μ-loop5 Inv-loop4 μ-loop4 Inv-loop9 μ-loop9 Inv-loop8 μ-loop8 Inv-loop3 μ-loop3
 add-due-2 c =
     omega (arith, c .before .before .before .ticks-of .ensures .1, c .before .before .before .before .before .before .before .before .before .before .before .before .before .before .before .before .before .before .before .before .before .loop3 .inv .1, c .before .before .before .before .before .before .before .before .before .before .before .before .before .before .before .before .before .before .before .before .loop3-test .taken)
-
-mul-t144 : tie.Need-mul-t144 Inv-loop2 μ-loop2 Inv-loop μ-loop Inv-loop6 μ-loop6 Inv-loop7 μ-loop7 Inv-loop5 μ-loop5 Inv-loop4 μ-loop4 Inv-loop9 μ-loop9 Inv-loop8 μ-loop8 Inv-loop3 μ-loop3
-mul-t144 c = search needs
 
 add-t145 : tie.Need-add-t145 Inv-loop2 μ-loop2 Inv-loop μ-loop Inv-loop6 μ-loop6 Inv-loop7 μ-loop7 Inv-loop5 μ-loop5 Inv-loop4 μ-loop4 Inv-loop9 μ-loop9 Inv-loop8 μ-loop8 Inv-loop3 μ-loop3
 add-t145 c =
@@ -732,7 +729,7 @@ run-spec =
     (λ c. search needs)
     (λ c. search needs)
     (λ c. search needs)
-    (λ c. search needs)
+    element-copy-out-m
     (λ c. search needs)
     (λ c. search needs)
     (λ c. search needs)
@@ -791,7 +788,7 @@ run-spec =
     element-copy-out-count-2
     (λ c κs. search needs)
     add-due-2
-    mul-t144
+    (λ c. search needs)
     add-t145
     mul-t146
     element-set-from-s-4
