@@ -10,13 +10,15 @@ use Rattle.election.specs.declared.Link.{Link}
 use Rattle.election.specs.declared.Message.{Message}
 use Rattle.election.specs.declared.System.{System}
 
--- the link at place k
+-- the link at place k: its count, and its stretch of the messages
 unfoldable pub linkOf : List ℕ → List Message → ℕ → Link
 linkOf used ms k = record { used = getD used k 0; messages = segment places noMessage ms k }
 
+-- all links
 unfoldable pub linksOf : List ℕ → List Message → List Link
 linksOf used ms = upTo 64 (linkOf used ms)
 
+-- the system: the same fields, and the links put together
 abbrev pub systemOf : Layout → System
 systemOf s =
     record {

@@ -46,6 +46,7 @@ pub fn command(s: System, bytes: &[u8]) -> Commanded
     if let Decision::Refused(why) = d {
         return refused(why, s);
     }
+    // taken: the owner does it, asked for no listings
     let size = 1 + width(bytes[0]);
     let mut none = [0u8; 1];
     let r = go_on(layout_of(s), 0, &bytes[..size], false, &mut none);
@@ -82,6 +83,7 @@ pub fn schedule(bytes: &[u8]) -> Scheduled
             },
             system,
         },
+        // asked for no listings, it never stops for want of room
         _ => Scheduled {
             ended: Ended::Whole(r.at),
             system,
