@@ -10,10 +10,11 @@ use borrow.Author.Tests.{ltb-true, leb-true, eqb-false, not-true}
 use Rattle.lists.specs.First.{firstFailed}
 use Rattle.lists.proofs.Bools.{both}
 use Rattle.lists.proofs.First.{passed}
-use Rattle.station.specs.Fit.{lastTick, mostStarts, within}
-use Rattle.station.proofs.Tests.{within-of}
+use Rattle.fit.specs.Fit.{within, longestDelay}
+use Rattle.station.specs.Limits.{lastTick, mostStarts}
+use Rattle.fit.proofs.Tests.{within-of}
 use Rattle.election.specs.Commands.{Command, SetUp, Start, Crash, Link, Run, Lose, Report, decode, operands, tests, ruling}
-use Rattle.election.specs.System.{longestDelay, station}
+use Rattle.election.specs.System.{station}
 use Rattle.election.specs.declared.System.{System}
 use Rattle.election.proofs.Places.{In}
 

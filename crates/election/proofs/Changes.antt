@@ -5,15 +5,16 @@ use mathlib.Core.List.{[]}
 use mathlib.Core.Bool.{true, false, true≢false}
 use Prim.Native.Nat.{ℕ, _+_, _-_, _<_, _≤_}
 use native.Mathlib.Omega.{arith}
-use lib.ListN.{getD}
-use lib.Seq.{getD-set-other}
-use Rattle.lists.proofs.Sets.{set-keeps}
-use Rattle.station.specs.Fit.{fit, fitStart}
+use lib.ListN.{length, getD}
+use lib.Seq.{getD-set-same, getD-set-other}
+use Rattle.lists.proofs.Sets.{within-list, set-keeps}
+use Rattle.fit.specs.Fit.{fit, fitStart}
 use Rattle.station.specs.Rules.{started, crashed}
 use Rattle.station.specs.declared.Station.{Station}
-use Rattle.station.proofs.Between.{of-start, of-crash}
+use Rattle.fit.proofs.Between.{of-start, of-crash}
 use Rattle.station.proofs.Fields.{started-slot, crashed-up}
-use Rattle.station.proofs.Keeps.{start-keeps, crash-keeps}
+use Rattle.fit.proofs.Keeps.{start-keeps, crash-keeps}
+use Rattle.fit.proofs.Tests.{fit-ranges}
 use Rattle.election.specs.Commands.{withStation, withDelay, withoutMessages}
 use Rattle.election.specs.System.{noStation, noLink, station, place, from, to, isLink, holding}
 use Rattle.election.specs.declared.Link.{Link}
@@ -115,3 +116,16 @@ module _ (s : System) (f : Sound s) (p q : ℕ) (hp : In (s .n) p) (hq : In (s .
             (λ e. empty-linked (s .n) (s .period) (s .tick) (station s a)) (f .linked a b ha hb other);
         no-link = λ k l e. rw (getD-set-other (s .links) (place p q) k (holding []) noLink (not-there k e)) (f .no-link k l e);
       }
+
+-- a station of the system stands in its list
+pub in-stations : (s : System) → Sound s → (p : ℕ) → In (s .n) p → p - 1 < length (s .stations)
+in-stations s f p ip =
+    within-list (λ (x : Station). 1 ≤ x .stable) (s .stations) (p - 1) noStation (λ h. omega arith) (fit-ranges p (s .n) (s .period) (s .tick) (station s p) (f .fits p ip) .1 .low)
+
+-- station p changed to x
+module _ (s : System) (f : Sound s) (p : ℕ) (ip : In (s .n) p) (x : Station) where
+  pub changed-same : station (withStation p x s) p ≡ x
+  changed-same = getD-set-same (s .stations) (p - 1) x noStation (in-stations s f p ip)
+
+  pub changed-other : (r : ℕ) → 1 ≤ r → r ≢ p → station (withStation p x s) r ≡ station s r
+  changed-other r low ne = getD-set-other (s .stations) (p - 1) (r - 1) x noStation (λ e. ne (let g : r ≡ p = omega (arith, ip .low) in g))

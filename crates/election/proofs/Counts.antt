@@ -1,35 +1,231 @@
--- Start counts: each is the number of accepted starts, and none falls.
+-- Start counts: each is the number of accepted starts, and none falls; a head is up if the latest of its starts and crashes is a start.
 use mathlib.Core.Path.{_≡_, refl, sym, ap, subst, _∙_}
-use mathlib.Core.Bool.{true, true≢false}
-use mathlib.Core.List.{List}
-use Prim.Native.Nat.{ℕ, zero, suc, _≤_}
+use mathlib.Core.Logic.{_≢_}
+use mathlib.Core.Bool.{Bool, true, false, cond, true≢false}
+use mathlib.Core.List.{List, [], _∷_}
+use Prim.Native.Nat.{ℕ, zero, suc, _+_, _≤_}
 use native.Mathlib.Decide.{ℕ-discrete}
-use native.Mathlib.Nat.{le-refl, le-of-eq}
+use native.Mathlib.Nat.{le-refl, add-zero, zero-add}
 use native.Mathlib.Omega.{arith}
 use lib.Dec.{eqb}
-use borrow.Author.Tests.{eqb-true}
+use borrow.Author.Tests.{eqb-true, ne-eqb, eq-eqb}
+use Rattle.lists.specs.First.{firstFailed}
 use Rattle.lists.proofs.Bools.{cond-elim}
 use Rattle.station.specs.Rules.{started, crashed}
 use Rattle.station.specs.declared.Station.{Station}
-use Rattle.station.proofs.Elimination.{started-elim, crashed-elim}
+use Rattle.station.proofs.Fields.{started-count, started-up, crashed-count, crashed-up}
 use Rattle.election.specs.Claims.{CountsStarts, UpIsLatest, CountsNeverFall}
-use Rattle.election.specs.Commands.{Command, SetUp, Start, Crash, Link, Run, Lose, Report, decode, refusal, withStation, perform, command}
+use Rattle.election.specs.Commands.{Command, SetUp, Start, Crash, Link, Run, Lose, Report, decode, tests, refusal, withStation, perform, command}
+use Rattle.election.specs.History.{commands, starts, isUp, reached}
 use Rattle.election.specs.Schedule.{schedule}
-use Rattle.election.specs.Settling.{commands}
-use Rattle.election.specs.System.{station}
+use Rattle.election.specs.Sound.{sound}
+use Rattle.election.specs.System.{station, fresh, initial}
 use Rattle.election.specs.Tick.{tick, ticks}
 use Rattle.election.specs.declared.System.{System}
 use Rattle.election.proofs.Accepting.{Accepts, accepts}
-use Rattle.election.proofs.Demand.{FromFresh, from-fresh, accepted-schedule}
-use Rattle.election.proofs.KeepsSound.{refusal-tests}
+use Rattle.election.proofs.Changes.{changed-same, changed-other}
+use Rattle.election.proofs.Followed.{Allowed, accepted-schedule}
+use Rattle.election.proofs.InitialSound.{fresh-sound, initial-ready, initial-n, initial-station}
+use Rattle.election.proofs.KeepsSound.{perform-keeps, refusal-tests}
 use Rattle.election.proofs.Places.{In, tick-n}
-use Rattle.election.proofs.Reached.{counts}
-use Rattle.election.proofs.Steps.{tick-count}
-use Rattle.election.proofs.Reaching.{changed-same, changed-other}
 use Rattle.election.proofs.Soundness.{Sound, sound-of}
+use Rattle.election.proofs.Steps.{tick-up, tick-count}
+use Rattle.election.proofs.TickSound.{ticks-ready}
 
--- the last system of an accepted schedule, from the fresh one by the schedule's commands
-from-schedule : (bytes : List ℕ) → schedule bytes .refusal ≡ 0 → FromFresh (commands bytes) (schedule bytes .system)
+-- a head's start count
+abbrev pub counts : System → ℕ → ℕ
+counts s x = station s x .incarnation
+
+-- the count and whether it is up, as a command leaves them
+abbrev countAfter : Command → ℕ → ℕ → ℕ
+countAfter (SetUp n period) x k = k
+countAfter (Start p) x k = cond (eqb p x) (suc k) k
+countAfter (Crash p) x k = k
+countAfter (Link p q d) x k = k
+countAfter (Run t) x k = k
+countAfter (Lose p q) x k = k
+countAfter Report x k = k
+
+abbrev upAfter : Command → ℕ → Bool → Bool
+upAfter (SetUp n period) x u = u
+upAfter (Start p) x u = cond (eqb p x) true u
+upAfter (Crash p) x u = cond (eqb p x) false u
+upAfter (Link p q d) x u = u
+upAfter (Run t) x u = u
+upAfter (Lose p q) x u = u
+upAfter Report x u = u
+
+starts-more : (x : ℕ) (c : Command) (cs : List Command) (k : ℕ) → countAfter c x k + starts x cs ≡ k + starts x (c ∷ cs)
+unfolding starts
+starts-more x (SetUp n period) cs k = refl
+starts-more x (Start p) cs k = go (eqb p x)
+  where
+    go : (b : Bool) → cond b (suc k) k + starts x cs ≡ k + cond b (suc (starts x cs)) (starts x cs)
+    go true = omega arith
+    go false = refl
+starts-more x (Crash p) cs k = refl
+starts-more x (Link p q d) cs k = refl
+starts-more x (Run t) cs k = refl
+starts-more x (Lose p q) cs k = refl
+starts-more x Report cs k = refl
+
+up-more : (x : ℕ) (c : Command) (cs : List Command) (u : Bool) → isUp (upAfter c x u) x cs ≡ isUp u x (c ∷ cs)
+unfolding isUp
+up-more x (SetUp n period) cs u = refl
+up-more x (Start p) cs u = refl
+up-more x (Crash p) cs u = refl
+up-more x (Link p q d) cs u = refl
+up-more x (Run t) cs u = refl
+up-more x (Lose p q) cs u = refl
+up-more x Report cs u = refl
+
+-- what one command does to station x, and to the number of stations
+pub record Step (c : Command) (x : ℕ) (s r : System) : Type 0 where
+  pub count : counts r x ≡ countAfter c x (counts s x)
+  pub up : station r x .up ≡ upAfter c x (station s x .up)
+
+ticks-n : (t : ℕ) (s : System) → ticks t s .n ≡ s .n
+unfolding ticks
+ticks-n zero s = refl
+ticks-n (suc t) s = ticks-n t (tick s) ∙ tick-n s
+
+ticks-step : (t : ℕ) (s : System) → s .n ≤ 8 → (x : ℕ) → In (s .n) x → Step (Run t) x s (ticks t s)
+unfolding ticks
+ticks-step zero s small x ix = record { count = refl; up = refl }
+ticks-step (suc t) s small x ix =
+    let r : Step (Run t) x (tick s) (ticks t (tick s)) = ticks-step t (tick s) (rw (tick-n s) small) x (rw (tick-n s) ix) in
+    record { count = r .count ∙ tick-count s small x ix; up = r .up ∙ tick-up s small x ix }
+
+changed-step : (c : Command) (s : System) → Sound s → (p : ℕ) → In (s .n) p → (y : Station) (x : ℕ) → In (s .n) x
+    → (x ≡ p → (y .incarnation ≡ countAfter c x (counts s x)) × (y .up ≡ upAfter c x (station s x .up)))
+    → (x ≢ p → (counts s x ≡ countAfter c x (counts s x)) × (station s x .up ≡ upAfter c x (station s x .up)))
+    → Step c x s (withStation p y s)
+changed-step c s h p ip y x ix a b = go (ℕ-discrete x p)
+  where
+    go : Dec (x ≡ p) → Step c x s (withStation p y s)
+    go (yes e) =
+        let at : station (withStation p y s) x ≡ y = ap (station (withStation p y s)) e ∙ changed-same s h p ip y in
+        record { count = ap (λ (z : Station). z .incarnation) at ∙ a e .0; up = ap (λ (z : Station). z .up) at ∙ a e .1 }
+    go (no ne) =
+        let at : station (withStation p y s) x ≡ station s x = changed-other s h p ip y x (ix .low) ne in
+        record { count = ap (λ (z : Station). z .incarnation) at ∙ b ne .0; up = ap (λ (z : Station). z .up) at ∙ b ne .1 }
+
+pub one-step : (c : Command) (s : System) → s .ready ≡ true → Sound s → Accepts c s → (x : ℕ) → In (s .n) x → Step c x s (perform c s)
+unfolding perform
+one-step (SetUp n period) s r h (nr, a1, a2, a3, a4) x ix = absurd (true≢false (sym r ∙ nr))
+one-step (Start p) s r h (r′, ip, d, few) x ix =
+    let y : Station = started p (s .n) (s .period) (s .tick) (station s p) in
+    changed-step (Start p) s h p ip y x ix
+    (λ e. (
+      started-count p (s .n) (s .period) (s .tick) (station s p) ∙ rw (e, eq-eqb p p refl) (omega arith),
+      started-up p (s .n) (s .period) (s .tick) (station s p) ∙ rw (e, eq-eqb p p refl),
+    ))
+    (λ ne. (rw (ne-eqb p x (λ i. ne (sym i))), rw (ne-eqb p x (λ i. ne (sym i)))))
+one-step (Crash p) s r h (r′, ip, u) x ix =
+    changed-step (Crash p) s h p ip (crashed (station s p)) x ix
+    (λ e. (crashed-count (station s p) ∙ rw e, crashed-up (station s p) ∙ rw (e, eq-eqb p p refl)))
+    (λ ne. (refl, rw (ne-eqb p x (λ i. ne (sym i)))))
+one-step (Link p q d) s r h a x ix = record { count = refl; up = refl }
+one-step (Run t) s r h a x ix = ticks-step t s (h .n-high) x ix
+one-step (Lose p q) s r h a x ix = record { count = refl; up = refl }
+one-step Report s r h a x ix = record { count = refl; up = refl }
+
+-- a system that is set up stays so, with its stations
+pub ready-after : (c : Command) (s : System) → s .ready ≡ true → Accepts c s → perform c s .ready ≡ true
+unfolding perform
+ready-after (SetUp n period) s r (nr, a1, a2, a3, a4) = absurd (true≢false (sym r ∙ nr))
+ready-after (Start p) s r a = r
+ready-after (Crash p) s r a = r
+ready-after (Link p q d) s r a = r
+ready-after (Run t) s r a = ticks-ready t s ∙ r
+ready-after (Lose p q) s r a = r
+ready-after Report s r a = r
+
+pub n-after : (c : Command) (s : System) → s .ready ≡ true → Accepts c s → perform c s .n ≡ s .n
+unfolding perform
+n-after (SetUp n period) s r (nr, a1, a2, a3, a4) = absurd (true≢false (sym r ∙ nr))
+n-after (Start p) s r a = refl
+n-after (Crash p) s r a = refl
+n-after (Link p q d) s r a = refl
+n-after (Run t) s r a = ticks-n t s
+n-after (Lose p q) s r a = refl
+n-after Report s r a = refl
+
+-- along a list of commands
+pub record Tied (cs : List Command) (s r : System) : Type 0 where
+  pub same-n : r .n ≡ s .n
+  pub counted : (x : ℕ) → In (s .n) x → counts r x ≡ counts s x + starts x cs
+  pub latest : (x : ℕ) → In (s .n) x → station r x .up ≡ isUp (station s x .up) x cs
+
+pub tied : (cs : List Command) (s : System) → s .ready ≡ true → sound s ≡ true → Allowed cs s → Tied cs s (reached cs s)
+unfolding reached starts isUp
+tied [] s r h a = record { same-n = refl; counted = λ x ix. sym (add-zero (counts s x)); latest = λ x ix. refl }
+tied (c ∷ cs) s r h (t, a) =
+    let k : Accepts c s = accepts c s t in
+    let e : perform c s .n ≡ s .n = n-after c s r k in
+    let rest : Tied cs (perform c s) (reached cs (perform c s)) = tied cs (perform c s) (ready-after c s r k) (perform-keeps c s h t) a in
+    record {
+      same-n = rest .same-n ∙ e;
+      counted = λ x ix.
+          let one : Step c x s (perform c s) = one-step c s r (sound-of s h r) k x ix in
+          rest .counted x (rw e ix) ∙ ap (λ (z : ℕ). z + starts x cs) (one .count) ∙ starts-more x c cs (counts s x);
+      latest = λ x ix.
+          let one : Step c x s (perform c s) = one-step c s r (sound-of s h r) k x ix in
+          rest .latest x (rw e ix) ∙ ap (λ z. isUp z x cs) (one .up) ∙ up-more x c cs (station s x .up);
+    }
+
+-- from the fresh system: counts are starts, and who is up is told by the latest start or crash
+pub record FromFresh (cs : List Command) (r : System) : Type 0 where
+  pub counted : (x : ℕ) → In (r .n) x → counts r x ≡ starts x cs
+  pub latest : (x : ℕ) → In (r .n) x → station r x .up ≡ isUp false x cs
+  pub is-ready : (x : ℕ) → In (r .n) x → r .ready ≡ true
+
+from-initial : (n period : ℕ) (cs : List Command) → n ≤ 8 → sound (initial n period) ≡ true → Allowed cs (initial n period)
+    → reached cs (initial n period) .ready ≡ true → FromFresh (SetUp n period ∷ cs) (reached cs (initial n period))
+unfolding starts isUp
+from-initial n period cs small h a ready =
+    let t : Tied cs (initial n period) (reached cs (initial n period)) = tied cs (initial n period) (initial-ready n period) h a in
+    let inside : (x : ℕ) → In (reached cs (initial n period) .n) x → In (initial n period .n) x = λ x ix. rw (← t .same-n) ix in
+    let inside′ : (x : ℕ) → In (reached cs (initial n period) .n) x → In n x = λ x ix. subst (λ m. In m x) (t .same-n ∙ initial-n n period) ix in
+    record {
+      counted = λ x ix. t .counted x (inside x ix) ∙ ap (λ (y : Station). y .incarnation + starts x cs) (initial-station n period small x (inside′ x ix)) ∙ zero-add (starts x cs);
+      latest = λ x ix. t .latest x (inside x ix) ∙ ap (λ (y : Station). isUp (y .up) x cs) (initial-station n period small x (inside′ x ix));
+      is-ready = λ x ix. ready;
+    }
+
+reached-ready : (cs : List Command) (s : System) → s .ready ≡ true → Allowed cs s → reached cs s .ready ≡ true
+unfolding reached
+reached-ready [] s r a = r
+reached-ready (c ∷ cs) s r (t, a) = reached-ready cs (perform c s) (ready-after c s r (accepts c s t)) a
+
+-- the fresh system has no station and is not set up
+nobody : (x : ℕ) → In (fresh .n) x → ⊥
+unfolding fresh
+nobody x ix = omega (arith, ix .low, ix .high)
+
+unready : fresh .ready ≡ true → ⊥
+unfolding fresh
+unready e = true≢false (sym e)
+
+-- so its first command is a set up
+first-command : (c : Command) (cs : List Command) → firstFailed (tests fresh c) ≡ 0 → Accepts c fresh → Allowed cs (perform c fresh) → FromFresh (c ∷ cs) (reached cs (perform c fresh))
+unfolding perform
+first-command (SetUp n period) cs t (r, a, b, c, d) ok =
+    from-initial n period cs b (perform-keeps (SetUp n period) fresh fresh-sound t) ok (reached-ready cs (initial n period) (initial-ready n period) ok)
+first-command (Start p) cs t (r, i, d, k) ok = absurd (unready r)
+first-command (Crash p) cs t (r, i, d) ok = absurd (unready r)
+first-command (Link p q d) cs t (r, i, j, k, l) ok = absurd (unready r)
+first-command (Run n) cs t (r, i, d) ok = absurd (unready r)
+first-command (Lose p q) cs t (r, i, j, k) ok = absurd (unready r)
+first-command Report cs t r ok = absurd (unready r)
+
+pub from-fresh : (cs : List Command) → Allowed cs fresh → FromFresh cs (reached cs fresh)
+unfolding reached
+from-fresh [] a = record { counted = λ x ix. absurd (nobody x ix); latest = λ x ix. absurd (nobody x ix); is-ready = λ x ix. absurd (nobody x ix) }
+from-fresh (c ∷ cs) (t, a) = first-command c cs t (accepts c fresh t) a
+
+-- and so where an accepted schedule ends
+pub from-schedule : (bytes : List ℕ) → schedule bytes .refusal ≡ 0 → FromFresh (commands bytes) (schedule bytes .system)
 from-schedule bytes e =
     let f = accepted-schedule bytes e in
     subst (FromFresh (commands bytes)) (sym (f .system)) (from-fresh (commands bytes) (f .allowed))
@@ -40,40 +236,21 @@ counts-starts bytes e p low high = from-schedule bytes e .counted p (record { lo
 pub up-is-latest : UpIsLatest
 up-is-latest bytes e p low high = from-schedule bytes e .latest p (record { low = low; high = high })
 
--- a tick leaves every count
-ticks-count : (t : ℕ) (s : System) → s .n ≤ 8 → (p : ℕ) → In (s .n) p → counts (ticks t s) p ≡ counts s p
-unfolding ticks
-ticks-count zero s small p ip = refl
-ticks-count (suc t) s small p ip = ticks-count t (tick s) (rw (tick-n s) small) p (rw (tick-n s) ip) ∙ tick-count s small p ip
-
--- a station that changes and keeps its count or raises it
-changed-count : (s : System) → Sound s → (p : ℕ) → In (s .n) p → (x : Station) → counts s p ≤ x .incarnation → (q : ℕ) → In (s .n) q → counts s q ≤ counts (withStation p x s) q
-changed-count s h p ip x rises q iq = go (ℕ-discrete q p)
-  where
-    go : Dec (q ≡ p) → counts s q ≤ counts (withStation p x s) q
-    go (yes e) =
-        let old : counts s q ≡ counts s p = ap (counts s) e in
-        let new : counts (withStation p x s) q ≡ x .incarnation = ap (counts (withStation p x s)) e ∙ ap (λ (y : Station). y .incarnation) (changed-same s h p ip x) in
-        omega arith
-    go (no ne) = le-of-eq (ap (λ (y : Station). y .incarnation) (sym (changed-other s h p ip x q (iq .low) ne)))
-
-perform-count : (c : Command) (s : System) → s .ready ≡ true → Sound s → Accepts c s → (q : ℕ) → In (s .n) q → counts s q ≤ counts (perform c s) q
-unfolding perform
-perform-count (SetUp n period) s r h (nr, a, b, c, d) q iq = absurd (true≢false (sym r ∙ nr))
-perform-count (Start p) s r h (r′, ip, d, few) q iq =
-    changed-count s h p ip (started p (s .n) (s .period) (s .tick) (station s p))
-    (started-elim (λ z. counts s p ≤ z .incarnation) p (s .n) (s .period) (s .tick) (station s p) (ip .low) (omega (arith, ip .high, h .n-high)) (λ v t a b c e f. omega arith))
-    q iq
-perform-count (Crash p) s r h (r′, ip, u) q iq =
-    changed-count s h p ip (crashed (station s p)) (crashed-elim (λ z. counts s p ≤ z .incarnation) (station s p) (le-refl (counts s p))) q iq
-perform-count (Link p q d) s r h a x ix = le-refl (counts s x)
-perform-count (Run t) s r h a q iq = le-of-eq (sym (ticks-count t s (h .n-high) q iq))
-perform-count (Lose p q) s r h a x ix = le-refl (counts s x)
-perform-count Report s r h a q iq = le-refl (counts s q)
+-- no command lowers a count
+count-rises : (c : Command) (x k : ℕ) → k ≤ countAfter c x k
+count-rises (SetUp n period) x k = le-refl k
+count-rises (Start p) x k = cond-elim (λ z. k ≤ z) (eqb p x) (λ e. omega arith) (λ e. le-refl k)
+count-rises (Crash p) x k = le-refl k
+count-rises (Link p q d) x k = le-refl k
+count-rises (Run t) x k = le-refl k
+count-rises (Lose p q) x k = le-refl k
+count-rises Report x k = le-refl k
 
 pub counts-never-fall : CountsNeverFall
 unfolding command
 counts-never-fall s bytes e r p low high =
     cond-elim (λ (x : System). counts s p ≤ counts x p) (eqb (refusal s bytes) 0)
-    (λ t. perform-count (decode bytes) s r (sound-of s e r) (accepts (decode bytes) s (refusal-tests s bytes (eqb-true (refusal s bytes) 0 t))) p (record { low = low; high = high }))
+    (λ t.
+    let k : Accepts (decode bytes) s = accepts (decode bytes) s (refusal-tests s bytes (eqb-true (refusal s bytes) 0 t)) in
+    rw (one-step (decode bytes) s r (sound-of s e r) k p (record { low = low; high = high }) .count) (count-rises (decode bytes) p (counts s p)))
     (λ t. le-refl (counts s p))

@@ -10,12 +10,12 @@ use native.Mathlib.Omega.{arith}
 use lib.Dec.{eqb}
 use borrow.Author.Tests.{eqb-true}
 use Rattle.lists.specs.Fold.{each}
-use Rattle.station.specs.Fit.{fit, flight, fitMessage, fitHear}
+use Rattle.fit.specs.Fit.{fit, flight, fitMessage, fitHear}
 use Rattle.station.specs.Rules.{heard}
 use Rattle.station.specs.declared.Station.{Station}
-use Rattle.station.proofs.Handed.{hearing-of, of-message}
-use Rattle.station.proofs.Keeps.{During, Next, fit-during, fit-hears, heard-during, hear-keeps}
-use Rattle.station.proofs.Tests.{counts-of}
+use Rattle.fit.proofs.Handed.{hearing-of, of-message}
+use Rattle.fit.proofs.Keeps.{During, Next, fit-during, fit-hears, heard-during, hear-keeps}
+use Rattle.fit.proofs.Tests.{counts-of}
 use Rattle.election.specs.Tick.{heardLink}
 use Rattle.election.specs.declared.Message.{Message}
 use Rattle.election.proofs.Links.{Posted}

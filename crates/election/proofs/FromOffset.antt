@@ -10,7 +10,7 @@ use lib.ListN.{length, getD, drop, length-drop, drop-of-length-le}
 use lib.Seq.{drop-drop}
 use borrow.Author.Tests.{ltb-true, eq-eqb}
 use Rattle.lists.proofs.First.{passed}
-use Rattle.station.specs.Fit.{within}
+use Rattle.fit.specs.Fit.{within}
 use Rattle.election.specs.Commands.{decode, operands, ruling, refusal, command}
 use Rattle.election.specs.Sound.{sound}
 use Rattle.election.specs.declared.System.{System}

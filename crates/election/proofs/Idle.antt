@@ -25,10 +25,10 @@ use Rattle.election.specs.Tick.{next, heardLink, heardAll, expiredNow, s
 use Rattle.election.specs.declared.Link.{Link}
 use Rattle.election.specs.declared.Message.{Message}
 use Rattle.election.specs.declared.System.{System}
-use Rattle.election.proofs.Invariant.{later-none}
 use Rattle.election.proofs.Places.{In, messages-holding}
 use Rattle.election.proofs.Soundness.{sound-of, link-of, place-of}
 use Rattle.election.proofs.TickSound.{after-few}
+use Rattle.election.proofs.Underway.{later-none}
 
 -- a link with no message due: none of its messages is due
 none-due : (now u : ℕ) (ms : List Message) → ((i : ℕ) → i < u → getD ms i noMessage .due ≢ now) → All (λ (m : Message). m .due ≢ now) (take u ms)

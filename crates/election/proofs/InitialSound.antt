@@ -10,9 +10,9 @@ use lib.Dec.{ltb}
 use borrow.Author.Tests.{lt-ltb, le-ltb}
 use Rattle.lists.proofs.Entries.{getD-upTo}
 use Rattle.lists.proofs.Test.{all-of}
-use Rattle.station.specs.Fit.{fit}
+use Rattle.fit.specs.Fit.{fit}
 use Rattle.station.specs.declared.Station.{Station}
-use Rattle.station.proofs.Down.{down-cleared, down-fits}
+use Rattle.fit.proofs.Down.{down-cleared, down-fits}
 use Rattle.station.proofs.Vectors.{zeros-at}
 use Rattle.election.specs.Claims.{FreshSound}
 use Rattle.election.specs.Sound.{emptyStation, emptyMessage, messageAt, emptyPlace, emptySeat, sound}

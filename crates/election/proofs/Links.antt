@@ -14,11 +14,11 @@ use Rattle.lists.specs.Entries.{over}
 use Rattle.lists.proofs.Bools.{both, three, four}
 use Rattle.lists.proofs.Sets.{within-list}
 use Rattle.lists.proofs.Test.{all-at, all-of}
-use Rattle.station.specs.Fit.{countsIn}
+use Rattle.fit.specs.Fit.{countsIn, longestDelay}
 use Rattle.station.specs.declared.Station.{Station}
-use Rattle.station.proofs.Tests.{Counts, of-counts}
+use Rattle.fit.proofs.Tests.{Counts, of-counts}
 use Rattle.station.proofs.Vectors.{zeros-at}
-use Rattle.election.specs.System.{places, longestDelay, noMessage, unused, messages, holding}
+use Rattle.election.specs.System.{places, noMessage, unused, messages, holding}
 use Rattle.election.specs.Sound.{emptyMessage, messageIn, beforeSlot, messageAt, messagePlace, spaced, placesIn, ordered, linkIn}
 use Rattle.election.specs.declared.Link.{Link}
 use Rattle.election.specs.declared.Message.{Message}

@@ -10,7 +10,7 @@ use lib.ListN.{length, getD}
 use lib.Dec.{ltb}
 use Rattle.lists.specs.First.{firstFailed}
 use Rattle.lists.proofs.Bools.{cond-elim}
-use Rattle.station.specs.Fit.{within}
+use Rattle.fit.specs.Fit.{within}
 use Rattle.election.specs.Claims.{NeverUnsound}
 use Rattle.election.specs.Commands.{Command, SetUp, Start, Crash, Link, Run, Lose, Report, decode, operands, tests, refusal, command}
 use Rattle.election.specs.Schedule.{End, follow, mostBytes, schedule}

@@ -12,9 +12,10 @@ use borrow.Author.Tests.{ltb-true, leb-true, eqb-true, eqb-false, lt-ltb, le-ltb
 use Rattle.lists.specs.Test.{allTo}
 use Rattle.lists.proofs.Bools.{both, three, five}
 use Rattle.lists.proofs.Test.{all-at, all-of}
-use Rattle.station.specs.Fit.{lastTick, within, fit}
-use Rattle.station.proofs.Tests.{within-of, of-within}
-use Rattle.election.specs.System.{longestDelay, noStation, noLink, station, place, from, to, delay, sentBy, messages, underway, isLink}
+use Rattle.fit.specs.Fit.{within, fit, longestDelay}
+use Rattle.station.specs.Limits.{lastTick}
+use Rattle.fit.proofs.Tests.{within-of, of-within}
+use Rattle.election.specs.System.{noStation, noLink, station, place, from, to, delay, sentBy, messages, underway, isLink}
 use Rattle.election.specs.Sound.{linkIn, emptyPlaces, emptyPlace, emptySeat, placeIn, stationIn, sound}
 use Rattle.election.specs.declared.Link.{Link}
 use Rattle.election.specs.declared.System.{System}

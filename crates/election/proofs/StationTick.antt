@@ -5,13 +5,13 @@ use mathlib.Core.Bool.{Bool, true, false}
 use Prim.Native.Nat.{ℕ, _+_, _<_, _≤_}
 use native.Mathlib.Omega.{arith}
 use Rattle.lists.specs.Fold.{each}
-use Rattle.station.specs.Fit.{fit, countsIn, fitSlot}
+use Rattle.fit.specs.Fit.{fit, countsIn, fitSlot}
 use Rattle.station.specs.Rules.{expired, slotted}
 use Rattle.station.specs.declared.Station.{Station}
-use Rattle.station.proofs.Down.{down-slot, down-keeps}
-use Rattle.station.proofs.Handed.{slotting-of}
-use Rattle.station.proofs.Keeps.{During, during-expires, during-slots, during-fits, slot-keeps, expire-fits, expire-slots}
-use Rattle.station.proofs.Tests.{of-counts}
+use Rattle.fit.proofs.Down.{down-slot, down-keeps}
+use Rattle.fit.proofs.Handed.{slotting-of}
+use Rattle.fit.proofs.Keeps.{During, during-expires, during-slots, during-fits, slot-keeps, expire-fits, expire-slots}
+use Rattle.fit.proofs.Tests.{of-counts}
 use Rattle.station.proofs.Unchanged.{expired-unchanged}
 use Rattle.election.specs.System.{station, underway}
 use Rattle.election.specs.Tick.{next, heardLink, heardAll, expiredNow, slottedNow, settled, sending, tick}

@@ -5,10 +5,10 @@ use mathlib.Core.List.{List}
 use mathlib.Core.Bool.{true, false}
 use Prim.Native.Nat.{ℕ, _<_, _≤_}
 use lib.ListN.{length}
-use Rattle.station.specs.Fit.{lastTick}
+use Rattle.station.specs.Limits.{lastTick}
 use Rattle.election.specs.Commands.{command}
 use Rattle.election.specs.Schedule.{schedule}
-use Rattle.election.specs.Settling.{commands, starts, isUp}
+use Rattle.election.specs.History.{commands, starts, isUp}
 use Rattle.election.specs.Sound.{sound}
 use Rattle.election.specs.System.{places, station, fresh}
 use Rattle.election.specs.Tick.{underwayAfter}

@@ -5,11 +5,12 @@ use Prim.Native.Nat.{ℕ, _+_, _*_, _-_}
 use lib.ListN.{length, getD, set}
 use lib.Dec.{leb, ltb, eqb}
 use Rattle.lists.specs.First.{firstFailed}
-use Rattle.station.specs.Fit.{lastTick, mostStarts, within}
+use Rattle.fit.specs.Fit.{within, longestDelay}
+use Rattle.station.specs.Limits.{lastTick, mostStarts}
 use Rattle.station.specs.Rules.{started, crashed}
 use Rattle.station.specs.declared.Station.{Station}
 use Rattle.election.specs.Sound.{sound}
-use Rattle.election.specs.System.{longestDelay, station, place, holding, initial}
+use Rattle.election.specs.System.{station, place, holding, initial}
 use Rattle.election.specs.Tick.{ticks}
 use Rattle.election.specs.declared.Answer.{Answer}
 use Rattle.election.specs.declared.Answer.the-variants.{Done, Refused}

@@ -2,16 +2,13 @@
 pub mod Breaches
 pub mod Claims
 pub mod Commands
-pub mod Handed
+pub mod History
 pub mod Idle
-pub mod Instance
 pub mod Listing
 pub mod Onward
-pub mod Operations
 pub mod Order
 pub mod Rehearsals
 pub mod Schedule
-pub mod Settling
 pub mod Sound
 pub mod System
 pub mod Tick

@@ -4,9 +4,10 @@ use Prim.Native.Nat.{ℕ, _+_, _*_}
 use lib.ListN.{getD}
 use lib.Dec.{leb, ltb, eqb}
 use Rattle.lists.specs.Test.{allTo}
-use Rattle.station.specs.Fit.{lastTick, within, countsIn, cleared, fit}
+use Rattle.fit.specs.Fit.{within, countsIn, cleared, fit, longestDelay}
+use Rattle.station.specs.Limits.{lastTick}
 use Rattle.station.specs.declared.Station.{Station}
-use Rattle.election.specs.System.{places, longestDelay, noStation, noMessage, noLink, station, from, to, isLink}
+use Rattle.election.specs.System.{places, noStation, noMessage, noLink, station, from, to, isLink}
 use Rattle.election.specs.declared.Link.{Link}
 use Rattle.election.specs.declared.Message.{Message}
 use Rattle.election.specs.declared.System.{System}

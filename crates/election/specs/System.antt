@@ -10,12 +10,9 @@ use Rattle.election.specs.declared.Link.{Link}
 use Rattle.election.specs.declared.Message.{Message}
 use Rattle.election.specs.declared.System.{System}
 
--- the most messages on a link, and the longest delay
+-- the most messages on a link
 abbrev pub places : ℕ
 places = 4
-
-abbrev pub longestDelay : ℕ
-longestDelay = 64
 
 -- what lies past the end of an array
 abbrev pub noStation : Station

@@ -16,8 +16,8 @@ use Rattle.lists.specs.Entries.{over}
 use Rattle.lists.proofs.Bools.{three}
 use Rattle.lists.proofs.Entries.{length-over, over-beyond, over-front}
 use Rattle.lists.proofs.Segment.{length-segment, getD-segment}
-use Rattle.station.specs.Fit.{countsIn}
-use Rattle.station.proofs.Tests.{counts-of}
+use Rattle.fit.specs.Fit.{countsIn}
+use Rattle.fit.proofs.Tests.{counts-of}
 use Rattle.election.specs.Idle.{Held}
 use Rattle.election.specs.Sound.{messageAt, emptyMessage, sound}
 use Rattle.election.specs.System.{noMessage, noLink, station, from, to, unused, messages, holding, isLink}

@@ -1,9 +1,9 @@
 // What an operation made of a station, as a line.
 ghost use mathlib.Core.Path.{_≡_};
-ghost use Rattle.station.specs.Operations.{refusalOf};
+ghost use Rattle.operations.specs.Operations.{refusalOf};
 use crate::print::Line;
-use station::Answer;
-use station::Outcome;
+use operations::Answer;
+use operations::Outcome;
 use station::Station;
 
 // The number of the refusal, 0 for none.

@@ -4,37 +4,42 @@ use station::Station;
 
 // Starts a station, and prints the case.
 fn start(name: &[u8], me: u8, n: u8, period: u32, tick: u32, s: Station) -> Station {
-    show(b"start", name, s, station::start(me, n, period, tick, s))
+    show(b"start", name, s, operations::start(me, n, period, tick, s))
 }
 
 // Crashes station 1 of 2 at tick 0, and prints the case.
 fn crash(name: &[u8], s: Station) {
-    show(b"crash", name, s, station::crash(1, 2, 16, 0, s));
+    show(b"crash", name, s, operations::crash(1, 2, 16, 0, s));
 }
 
 // Has station 2 of 2 hear LEADER from q, and prints the case.
 fn hear(name: &[u8], tick: u32, q: u8, v: [u16; 8], s: Station) -> Station {
-    show(b"hear", name, s, station::hear(2, 2, 16, tick, q, v, s))
+    show(b"hear", name, s, operations::hear(2, 2, 16, tick, q, v, s))
 }
 
 // Has station 3 of 3 hear LEADER from q, and prints the case.
 fn third_hears(name: &[u8], tick: u32, q: u8, v: [u16; 8], s: Station) {
-    show(b"hear", name, s, station::hear(3, 3, 16, tick, q, v, s));
+    show(b"hear", name, s, operations::hear(3, 3, 16, tick, q, v, s));
 }
 
 // Has station 2 of 2 hear LEADER from 1 with another period, and prints the case.
 fn hear_by(name: &[u8], period: u32, tick: u32, v: [u16; 8], s: Station) {
-    show(b"hear", name, s, station::hear(2, 2, period, tick, 1, v, s));
+    show(
+        b"hear",
+        name,
+        s,
+        operations::hear(2, 2, period, tick, 1, v, s),
+    );
 }
 
 // Ends the timer of station 2 of 2, and prints the case.
 fn expire(name: &[u8], tick: u32, s: Station) -> Station {
-    show(b"expire", name, s, station::expire(2, 2, 16, tick, s))
+    show(b"expire", name, s, operations::expire(2, 2, 16, tick, s))
 }
 
 // Gives a station of 2 its send chance, and prints the case.
 fn slot(name: &[u8], me: u8, tick: u32, s: Station) -> Station {
-    show(b"slot", name, s, station::slot(me, 2, 16, tick, s))
+    show(b"slot", name, s, operations::slot(me, 2, 16, tick, s))
 }
 
 // Counts of the first three stations.
@@ -206,7 +211,7 @@ fn unfit_ticks() {
 // Messages that are heard.
 fn heard() {
     let first = hear(b"1 at tick 1", 1, 1, counts(1, 1, 0), two());
-    let later = station::hear(1, 2, 16, 1, 2, counts(0, 1, 0), one());
+    let later = operations::hear(1, 2, 16, 1, 2, counts(0, 1, 0), one());
     show(b"hear", b"a later candidate", one(), later);
     let v = counts(2, 1, 0);
     hear(b"the leader with a higher count", 2, 1, v, first);
@@ -294,7 +299,7 @@ fn longest() {
     let ended = expire(b"with a timeout 1004349 at tick 1000000", 1000000, s);
     slot(b"after that", 2, 1000000, ended);
     let both = at_last(2, 0, timeouts(1004350, 0, 1004350));
-    let out = station::slot(2, 3, 16, 1000000, both);
+    let out = operations::slot(2, 3, 16, 1000000, both);
     show(b"slot", b"with two timeouts 1004350", both, out);
     let trusting = at_last(1, 1000010, t);
     slot(b"with a timeout 1004350, trusting 1", 2, 1000000, trusting);
@@ -329,12 +334,17 @@ fn largest() -> Station {
 
 // Hands every operation the same values, and prints the cases.
 fn each(name: &[u8], me: u8, n: u8, period: u32, tick: u32, q: u8, v: [u16; 8], s: Station) {
-    show(b"start", name, s, station::start(me, n, period, tick, s));
-    show(b"crash", name, s, station::crash(me, n, period, tick, s));
-    let heard = station::hear(me, n, period, tick, q, v, s);
+    show(b"start", name, s, operations::start(me, n, period, tick, s));
+    show(b"crash", name, s, operations::crash(me, n, period, tick, s));
+    let heard = operations::hear(me, n, period, tick, q, v, s);
     show(b"hear", name, s, heard);
-    show(b"expire", name, s, station::expire(me, n, period, tick, s));
-    show(b"slot", name, s, station::slot(me, n, period, tick, s));
+    show(
+        b"expire",
+        name,
+        s,
+        operations::expire(me, n, period, tick, s),
+    );
+    show(b"slot", name, s, operations::slot(me, n, period, tick, s));
 }
 
 // The largest number everywhere, and in every field of the station alone.

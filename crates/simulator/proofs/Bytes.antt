@@ -12,9 +12,9 @@ use borrow.Author.Tests.{lt-ltb, le-ltb, le-leb, lt-leb, eqb-true, ne-eqb}
 use Rattle.lists.specs.First.{firstFailed}
 use Rattle.lists.specs.Test.{allTo}
 use Rattle.lists.proofs.Test.{all-at}
-use Rattle.station.specs.Fit.{within}
+use Rattle.fit.specs.Fit.{within}
 use Rattle.station.specs.declared.Station.{Station}
-use Rattle.station.proofs.Tests.{of-within}
+use Rattle.fit.proofs.Tests.{of-within}
 use Rattle.election.specs.Sound.{sound}
 use Rattle.election.specs.Commands.{Command, SetUp, Start, Crash, Link, Run, Lose, Report, decode, operands, tests, ruling, refusal, command}
 use Rattle.election.specs.System.{station}

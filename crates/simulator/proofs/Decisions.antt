@@ -11,7 +11,7 @@ use borrow.Author.Tests.{eqb-true}
 use denote.Enum.Declared.{tagOf}
 use types.Run.{OneOf, miss}
 use Rattle.lists.specs.First.{firstFailed}
-use Rattle.station.specs.Fit.{within}
+use Rattle.fit.specs.Fit.{within}
 use Rattle.election.specs.Sound.{sound}
 use Rattle.election.specs.Commands.{Command, decode, operands, tests, ruling, refusal, perform, command, numberOf}
 use Rattle.election.specs.System.{noStation}

@@ -15,7 +15,7 @@ use borrow.Rule.Slice.PartMut.{putMid}
 use Rattle.lists.specs.Entries.{over}
 use Rattle.lists.specs.First.{firstFailed}
 use Rattle.lists.proofs.First.{passed}
-use Rattle.station.specs.Fit.{within}
+use Rattle.fit.specs.Fit.{within}
 use Rattle.station.specs.declared.Station.{Station}
 use Rattle.election.specs.Commands.{Command, SetUp, Start, Crash, Link, Run, Lose, Report, Result, decode, operands, tests, ruling, perform, refusal, command, numberOf, withStation, withDelay, withoutMessages}
 use Rattle.election.specs.Listing.{listing, longestListing}

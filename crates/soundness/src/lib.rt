@@ -7,11 +7,11 @@ ghost use Rattle.election.specs.Sound.{emptyStation, emptyMessage, messageIn, b
 use election::Link;
 use election::Message;
 use election::System;
+use fit::cleared;
+use fit::counts_in;
+use fit::fit;
+use fit::wide;
 use station::Station;
-use station::fit::cleared;
-use station::fit::counts_in;
-use station::fit::fit;
-use station::fit::wide;
 
 // Whether a place beyond the stations is zero.
 fn empty_station(x: Station) -> bool

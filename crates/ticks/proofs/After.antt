@@ -13,7 +13,7 @@ use borrow.Author.Tests.{le-ltb, eq-eqb, ne-eqb, eqb-false, not-true}
 use Rattle.lists.specs.Entries.{firsts}
 use Rattle.lists.proofs.Bools.{both, cond-yes, cond-no}
 use Rattle.lists.proofs.Entries.{firsts-zero, firsts-turn, firsts-beyond, firsts-idle, length-firsts}
-use Rattle.station.specs.Fit.{lastTick}
+use Rattle.station.specs.Limits.{lastTick}
 use Rattle.station.specs.Rules.{slotted}
 use Rattle.station.specs.declared.Station.{Station}
 use Rattle.election.specs.Idle.{quietStation, quietLink}

@@ -14,7 +14,7 @@ use Rattle.lists.proofs.Bools.{both, cond-yes, cond-no, cond-elim}
 use Rattle.lists.proofs.Entries.{upTo-same, firsts-cond}
 use Rattle.lists.proofs.Fold.{each-turn}
 use Rattle.station.specs.Order.{entry}
-use Rattle.station.specs.Fit.{lastTick, longest}
+use Rattle.station.specs.Limits.{lastTick, longest}
 use Rattle.station.specs.Rules.{expired}
 use Rattle.station.specs.declared.Station.{Station}
 use Rattle.election.specs.System.{noStation, noLink, messages, underway}

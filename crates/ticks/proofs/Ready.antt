@@ -11,12 +11,13 @@ use borrow.Author.Tests.{eqb-true}
 use Rattle.lists.specs.Fold.{each}
 use Rattle.lists.proofs.Bools.{both, three, five}
 use Rattle.station.specs.Order.{entry}
-use Rattle.station.specs.Fit.{lastTick, longest, ranges, keptIn, cleared, countsIn, timeoutsIn, fit}
+use Rattle.fit.specs.Fit.{ranges, keptIn, cleared, countsIn, timeoutsIn, fit}
+use Rattle.station.specs.Limits.{lastTick, longest}
 use Rattle.station.specs.Rules.{other}
 use Rattle.station.specs.declared.Station.{Station}
-use Rattle.station.proofs.Keeps.{during-expires}
-use Rattle.station.proofs.Safe.{expire-safe}
-use Rattle.station.proofs.Tests.{Timeouts, timeouts-of, fit-of, fit-down}
+use Rattle.fit.proofs.Keeps.{during-expires}
+use Rattle.fit.proofs.Safe.{expire-safe}
+use Rattle.fit.proofs.Tests.{Timeouts, timeouts-of, fit-of, fit-down}
 use Rattle.election.specs.Sound.{emptyPlace}
 use Rattle.election.specs.System.{noStation, noLink, station, place, underway}
 use Rattle.election.specs.Tick.{heardLink, heardAll}

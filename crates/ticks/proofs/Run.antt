@@ -3,7 +3,7 @@ use mathlib.Core.Path.{_≡_, refl, sym, ap, _∙_}
 use mathlib.Core.Bool.{true}
 use Prim.Native.Nat.{ℕ, zero, suc, _+_, _-_, _<_, _≤_}
 use native.Mathlib.Omega.{arith}
-use Rattle.station.specs.Fit.{lastTick}
+use Rattle.station.specs.Limits.{lastTick}
 use Rattle.election.specs.Idle.{quietAt, atTick, Held}
 use Rattle.election.specs.Sound.{sound}
 use Rattle.election.specs.Tick.{tick, ticks}

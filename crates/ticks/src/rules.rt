@@ -3,7 +3,7 @@
 ghost use mathlib.Core.Path.{_≡_};
 ghost use mathlib.Core.Bool.{true};
 ghost use Prim.Native.Nat.{_+_, _≤_};
-ghost use Rattle.station.specs.Fit.{lastTick};
+ghost use Rattle.station.specs.Limits.{lastTick};
 ghost use Rattle.layout.specs.Layout.{systemOf};
 ghost use Rattle.election.specs.Sound.{sound};
 ghost use Rattle.election.specs.Tick.{ticks};

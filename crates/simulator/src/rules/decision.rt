@@ -5,7 +5,7 @@ ghost use mathlib.Core.Bool.{true, _&&_};
 ghost use Prim.Native.Nat.{_+_, _*_, _-_, _<_, _≤_};
 ghost use lib.ListN.{getD};
 ghost use Rattle.lists.specs.First.{firstFailed};
-ghost use Rattle.station.specs.Fit.{within};
+ghost use Rattle.fit.specs.Fit.{within};
 ghost use Rattle.election.specs.Commands.{SetUp, Start, Crash, Link, Run, Lose, Report, decode, ruling, tests};
 ghost use Rattle.election.specs.Sound.{sound};
 ghost use Rattle.election.specs.System.{station};

@@ -4,7 +4,7 @@ use Rattle.soundness.proofs.apart.Statement.{statement}
 use Rattle.soundness.proofs.apart.Tie as tie
 use Rattle.soundness.proofs.apart.Reads as reads
 use Rattle.soundness.proofs.apart.Lts as lts
-use Rattle.station.proofs.fit.wide.Reads as wide-reads
+use Rattle.fit.proofs.wide.Reads as wide-reads
 
 wide-requires : tie.Need-wide-requires
 wide-requires c κs = search needs

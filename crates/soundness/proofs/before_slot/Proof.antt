@@ -5,7 +5,7 @@ use Rattle.soundness.proofs.before_slot.Statement.{statement}
 use Rattle.soundness.proofs.before_slot.Tie as tie
 use Rattle.soundness.proofs.before_slot.Reads as reads
 use Rattle.soundness.proofs.before_slot.Lts as lts
-use Rattle.station.proofs.fit.wide.Reads as wide-reads
+use Rattle.fit.proofs.wide.Reads as wide-reads
 
 wide-requires : tie.Need-wide-requires
 wide-requires c κs = search needs

@@ -5,7 +5,7 @@ use Rattle.soundness.proofs.empty_message.Statement.{statement}
 use Rattle.soundness.proofs.empty_message.Tie as tie
 use Rattle.soundness.proofs.empty_message.Reads as reads
 use Rattle.soundness.proofs.empty_message.Lts as lts
-use Rattle.station.proofs.fit.counts_in.Reads as counts-in-reads
+use Rattle.fit.proofs.counts_in.Reads as counts-in-reads
 
 counts-in-requires : tie.Need-counts-in-requires
 counts-in-requires c κs = search needs

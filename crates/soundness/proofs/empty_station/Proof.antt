@@ -5,7 +5,7 @@ use Rattle.soundness.proofs.empty_station.Statement.{statement}
 use Rattle.soundness.proofs.empty_station.Tie as tie
 use Rattle.soundness.proofs.empty_station.Reads as reads
 use Rattle.soundness.proofs.empty_station.Lts as lts
-use Rattle.station.proofs.fit.cleared.Reads as cleared-reads
+use Rattle.fit.proofs.cleared.Reads as cleared-reads
 
 cleared-requires : tie.Need-cleared-requires
 cleared-requires c κs = search needs

@@ -5,8 +5,8 @@ use Rattle.soundness.proofs.message_in.Statement.{statement}
 use Rattle.soundness.proofs.message_in.Tie as tie
 use Rattle.soundness.proofs.message_in.Reads as reads
 use Rattle.soundness.proofs.message_in.Lts as lts
-use Rattle.station.proofs.fit.counts_in.Reads as counts-in-reads
-use Rattle.station.proofs.fit.wide.Reads as wide-reads
+use Rattle.fit.proofs.counts_in.Reads as counts-in-reads
+use Rattle.fit.proofs.wide.Reads as wide-reads
 
 wide-requires : tie.Need-wide-requires
 wide-requires c κs = search needs

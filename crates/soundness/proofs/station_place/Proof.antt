@@ -7,8 +7,8 @@ use Rattle.soundness.proofs.station_place.Tie as tie
 use Rattle.soundness.proofs.station_place.Reads as reads
 use Rattle.soundness.proofs.station_place.Lts as lts
 use Rattle.soundness.proofs.empty_station.Reads as empty-station-reads
-use Rattle.station.proofs.fit.fit.Reads as fit-reads
-use Rattle.station.proofs.fit.wide.Reads as wide-reads
+use Rattle.fit.proofs.fit.Reads as fit-reads
+use Rattle.fit.proofs.wide.Reads as wide-reads
 
 wide-requires : tie.Need-wide-requires
 wide-requires c κs = search needs

@@ -9,7 +9,7 @@ use lib.ListN.{length, set, getD, length-map, length-set}
 use lib.Seq.{getD-set-same}
 use borrow.Author.Needs.{needs}
 use Rattle.lists.proofs.Segment.{length-segment}
-use Rattle.station.specs.Fit.{lastTick}
+use Rattle.station.specs.Limits.{lastTick}
 use Rattle.station.specs.declared.Station.{Station}
 use Rattle.layout.specs.Layout.{systemOf}
 use Rattle.layout.specs.declared.Layout.{Layout}

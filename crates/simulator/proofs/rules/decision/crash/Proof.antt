@@ -1,6 +1,6 @@
 -- The function rules::decision::crash meets its contract.
 use Rattle.lists.proofs.Bools.{holds, fails}
-use Rattle.station.proofs.Tests.{within-of}
+use Rattle.fit.proofs.Tests.{within-of}
 use borrow.Author.Tests.{not-true, not-false}
 use borrow.Author.Needs.{needs}
 use Rattle.simulator.proofs.rules.decision.crash.Statement.{statement}

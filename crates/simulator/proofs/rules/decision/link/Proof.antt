@@ -1,6 +1,6 @@
 -- The function rules::decision::link meets its contract.
 use Rattle.lists.proofs.Bools.{holds, fails}
-use Rattle.election.specs.System.{longestDelay}
+use Rattle.fit.specs.Fit.{longestDelay}
 use borrow.Author.Tests.{not-true, not-false, le-leb, lt-leb, eq-eqb, ne-eqb}
 use native.Mathlib.Omega.{arith}
 use borrow.Author.Needs.{needs}

@@ -1,6 +1,6 @@
 -- The function rules::decision::run meets its contract.
 use Prim.Native.Nat.{_+_}
-use Rattle.station.specs.Fit.{lastTick}
+use Rattle.station.specs.Limits.{lastTick}
 use borrow.Author.Tests.{not-true, not-false, lt-ltb, le-ltb, le-leb, lt-leb}
 use native.Mathlib.Omega.{arith}
 use borrow.Author.Needs.{needs}

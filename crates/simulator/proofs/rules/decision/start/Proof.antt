@@ -1,7 +1,7 @@
 -- The function rules::decision::start meets its contract.
 use Rattle.lists.proofs.Bools.{holds, fails}
-use Rattle.station.proofs.Tests.{within-of}
-use Rattle.station.specs.Fit.{mostStarts}
+use Rattle.fit.proofs.Tests.{within-of}
+use Rattle.station.specs.Limits.{mostStarts}
 use borrow.Author.Tests.{not-true, not-false, lt-ltb, le-ltb}
 use borrow.Author.Needs.{needs}
 use Rattle.simulator.proofs.rules.decision.start.Statement.{statement}

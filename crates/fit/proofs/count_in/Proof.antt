@@ -1,0 +1,13 @@
+-- The function fit::count_in meets its contract.
+use borrow.Author.Tests.{lt-ltb, le-ltb}
+use Rattle.fit.proofs.count_in.Statement.{statement}
+use Rattle.fit.proofs.count_in.Tie as tie
+
+returns : tie.Need-returns
+returns c = rw (lt-ltb _ _ (c .if1 .taken))
+
+returns-2 : tie.Need-returns-2
+returns-2 c = rw (le-ltb _ _ (c .if1 .left))
+
+pub count-in-spec : {M : Type 1} → statement M
+count-in-spec = tie.close (tie.spec returns returns-2)

@@ -1,0 +1,20 @@
+-- The function fit::unended meets its contract.
+use borrow.Author.Needs.{needs}
+use Rattle.fit.specs.Fit.{unended}
+use Rattle.fit.proofs.unended.Statement.{statement}
+use Rattle.fit.proofs.unended.Tie as tie
+
+returns : tie.Need-returns
+unfolding unended
+returns c = cc
+
+pub unended-spec : {M : Type 1} → statement M
+unended-spec =
+    tie.close
+    (tie.spec
+    (λ c κs. search needs)
+    (λ c κs. search needs)
+    (λ c κs. search needs)
+    (λ c κs. search needs)
+    (λ c κs. search needs)
+    returns)

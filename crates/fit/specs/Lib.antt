@@ -1,0 +1,2 @@
+-- What a sound table can hand to one station.
+pub mod Fit

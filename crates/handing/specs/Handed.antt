@@ -1,0 +1,90 @@
+-- What a sound system hands to a station operation, by its next command or in its next tick.
+use mathlib.Core.Path.{_≡_}
+use mathlib.Core.Logic.{_≢_, _↔_}
+use mathlib.Core.List.{List, _∷_, _++_}
+use mathlib.Core.Bool.{true}
+use Prim.Native.Nat.{ℕ, _+_, _-_, _≤_}
+use lib.ListN.{length}
+use Rattle.lists.specs.Fold.{each}
+use Rattle.fit.specs.Fit.{fitStart, fitCrash, fitHear, fitExpire, fitSlot}
+use Rattle.station.specs.Limits.{lastTick}
+use Rattle.station.specs.declared.Station.{Station}
+use Rattle.election.specs.Sound.{sound}
+use Rattle.election.specs.System.{station, underway}
+use Rattle.election.specs.Tick.{heardLink, heardAll, settled}
+use Rattle.election.specs.declared.Message.{Message}
+use Rattle.election.specs.declared.System.{System}
+
+-- a sound system that is set up, with station me among its stations
+pub record Holds (me n period tick : ℕ) (s : System) : Type 0 where
+  pub is-sound : sound s ≡ true
+  pub is-ready : s .ready ≡ true
+  pub same-n : s .n ≡ n
+  pub same-period : s .period ≡ period
+  pub same-tick : s .tick ≡ tick
+  pub low : 1 ≤ me
+  pub high : me ≤ n
+
+-- a command on station me finds x there
+pub record Finds (me n period tick : ℕ) (x : Station) : Type 0 where
+  pub system : System
+  pub holds : Holds me n period tick system
+  pub is-station : station system me ≡ x
+
+-- the tick now comes, and station me is up
+pub record Runs (me n period now : ℕ) (s : System) : Type 0 where
+  pub low : 1 ≤ now
+  pub high : now ≤ lastTick
+  pub holds : Holds me n period (now - 1) s
+  pub is-up : station s me .up ≡ true
+
+-- in (a) of the tick now, station me is x when a message of q with the counts v comes up
+pub record Hears (me n period now q : ℕ) (v : List ℕ) (x : Station) : Type 0 where
+  pub system : System
+  pub runs : Runs me n period now system
+  pub sender-low : 1 ≤ q
+  pub sender-high : q ≤ n
+  pub other : q ≢ me
+  pub older : List Message
+  pub message : Message
+  pub younger : List Message
+  pub is-mail : underway system q me ≡ older ++ (message ∷ younger)
+  pub is-due : message .due ≡ now
+  pub is-counts : message .counts ≡ v
+  pub is-station : heardLink me q now older (each (q - 1) (λ k. heardLink me (k + 1) now (underway system (k + 1) me)) (station system me)) ≡ x
+
+-- in (b) station me is x, and its timer is due
+pub record Expires (me n period now : ℕ) (x : Station) : Type 0 where
+  pub system : System
+  pub runs : Runs me n period now system
+  pub is-station : heardAll n me now (λ q. underway system q me) (station system me) ≡ x
+  pub is-due : x .timer ≡ now
+
+-- in (c) station me is x, and its send chance is due
+pub record Slots (me n period now : ℕ) (x : Station) : Type 0 where
+  pub system : System
+  pub runs : Runs me n period now system
+  pub is-station : settled system me ≡ x
+  pub is-due : x .slot ≡ now
+
+-- the vectors of a station have eight entries
+pub record Eight (x : Station) : Type 0 where
+  pub counts : length (x .recovered) ≡ 8
+  pub timeouts : length (x .timeouts) ≡ 8
+
+-- an operation takes exactly what some sound system hands to it
+abbrev pub StartExact : Type 0
+StartExact = (me n period tick : ℕ) (x : Station) → (fitStart me n period tick x ≡ true) ↔ Finds me n period tick x
+
+abbrev pub CrashExact : Type 0
+CrashExact = (me n period tick : ℕ) (x : Station) → (fitCrash me n period tick x ≡ true) ↔ (Finds me n period tick x × (x .up ≡ true))
+
+abbrev pub HearExact : Type 0
+HearExact =
+    (me n period now q : ℕ) (v : List ℕ) (x : Station) → Eight x → (fitHear me n period now q v x ≡ true) ↔ Hears me n period now q v x
+
+abbrev pub ExpireExact : Type 0
+ExpireExact = (me n period now : ℕ) (x : Station) → (fitExpire me n period now x ≡ true) ↔ Expires me n period now x
+
+abbrev pub SlotExact : Type 0
+SlotExact = (me n period now : ℕ) (x : Station) → Eight x → (fitSlot me n period now x ≡ true) ↔ Slots me n period now x

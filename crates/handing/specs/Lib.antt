@@ -1,0 +1,2 @@
+-- What a sound system hands to a station operation.
+pub mod Handed

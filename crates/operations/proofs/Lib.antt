@@ -1,0 +1,2 @@
+-- What each operation gives, accepted or refused.
+pub mod Outcomes

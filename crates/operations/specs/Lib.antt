@@ -1,0 +1,2 @@
+-- The open operations of one station.
+pub mod Operations

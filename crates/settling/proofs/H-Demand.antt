@@ -1,0 +1,140 @@
+-- Demand 3, from the schedule's bytes and a list of byte strings.
+use mathlib.Core.Path.{_≡_, refl, sym, ap, subst, _∙_}
+use mathlib.Core.Logic.{_⊎_}
+use mathlib.Core.Logic._⊎_.{inl, inr}
+use mathlib.Core.Bool.{Bool, true, false, cond, true≢false}
+use mathlib.Core.List.{List, [], _∷_}
+use Prim.Native.Nat.{ℕ, zero, suc, _+_, _-_, _*_, _/_, _≤_, _<_}
+use native.Mathlib.Decide.{ℕ-discrete}
+use native.Mathlib.Nat.{zero-add}
+use native.Mathlib.Omega.{arith}
+use lib.Dec.{eqb, ltb}
+use lib.ListN.{length, getD, take, drop}
+use borrow.Author.Tests.{not-false, eqb-true, eq-eqb}
+use Rattle.lists.specs.Every.{All}
+use Rattle.lists.specs.First.{firstFailed}
+use Rattle.lists.proofs.Bools.{cond-elim}
+use Rattle.lists.proofs.Every.{all-append}
+use Rattle.lists.proofs.Test.{all-at}
+use Rattle.station.specs.declared.Station.{Station}
+use Rattle.election.specs.Commands.{Command, SetUp, Start, Crash, Link, Run, Lose, Report, decode, operands, tests, ruling, refusal, perform, command}
+use Rattle.election.specs.Listing.{trusts, agreed}
+use Rattle.election.specs.Schedule.{End, mostBytes, follow, schedule}
+use Rattle.settling.specs.Settling.{moments, ticksOf, befores, divided, dividedTicks, Quiet, upHeads, bound, answered, given, Settling}
+use Rattle.election.specs.History.{accepted, after, history, commands, starts, isUp, reached}
+use Rattle.election.specs.Sound.{sound}
+use Rattle.election.specs.System.{noStation, station, fresh, initial}
+use Rattle.election.specs.Tick.{sending, tick}
+use Rattle.election.specs.declared.System.{System}
+use Rattle.election.proofs.Accepting.{Accepts, accepts, ruling-tests}
+use Rattle.settling.proofs.B-Calm.{Stretch}
+use Rattle.election.proofs.Followed.{rules-system, Followed, accepted-schedule}
+use Rattle.settling.proofs.E2-Follower.{slot-leader}
+use Rattle.election.proofs.Counts.{counts, FromFresh, from-schedule}
+use Rattle.election.proofs.Places.{In, tick-station, tick-n}
+use Rattle.settling.proofs.F-Potential.{tri, tri-double}
+use Rattle.settling.proofs.A2-Reached.{Reached}
+use Rattle.settling.proofs.A3-Reaching.{Arrived, perform-arrived, fresh-arrived, reached-arrived}
+use Rattle.settling.proofs.G3-Begins.{FirstUp, from-here, begin-inv}
+use Rattle.election.proofs.Steps.{sending-of, tick-up}
+use Rattle.settling.proofs.G4-Walk.{walk}
+
+after-arrived : (s : System) (e : List ℕ) → Arrived s → Arrived (after s e)
+unfolding after
+after-arrived s e h = cond-elim Arrived (accepted s e) (λ t. perform-arrived (decode e) s (ruling-tests s e (eqb-true _ _ t)) h) (λ t. h)
+
+-- After every prefix of a stretch Command answers what the rules give.
+pub answers : (k : ℕ) (es : List (List ℕ)) (s : System) → Arrived s → answered (take k es) s ≡ given (take k es) s
+unfolding answered given
+answers zero es s h = refl
+answers (suc k) [] s h = refl
+answers (suc k) (e ∷ es) s h =
+    ap (answered (take k es)) (rules-system s e (h .is-sound)) ∙ answers k es (after s e) (after-arrived s e h)
+
+-- At the end of a tick that isn't divided, whoever sent in it is L.
+abbrev Silent : ℕ → System → Type 0
+Silent L x = divided L (tick x) ≡ false → (p : ℕ) → 1 ≤ p → p ≤ x .n → sending x p ≡ true → p ≡ L
+
+silent-tick : (L : ℕ) (x : System) → x .n ≤ 8 → Silent L x
+unfolding agreed
+silent-tick L x small e p low high t =
+    let ip : In (x .n) p = record { low = low; high = high } in
+    let (u, sl, l) = sending-of x p t in
+    let all : agreed (tick x .n) (tick x .stations) L ≡ true = not-false (agreed (tick x .n) (tick x .stations) L) e in
+    let at : trusts L (station (tick x) p) ≡ true = all-at (tick x .n) (p - 1) (λ k. trusts L (getD (tick x .stations) k noStation)) all (omega (arith, tick-n x)) in
+    let up : station (tick x) p .up ≡ true = tick-up x small p ip ∙ u in
+    let f : eqb (station (tick x) p .leader) L ≡ true = ap (λ b. cond b (eqb (station (tick x) p .leader) L) true) (sym up) ∙ at in
+    let leads : station (tick x) p .leader ≡ p = ap (λ (y : Station). y .leader) (tick-station x small p ip) ∙ slot-leader (x .period) (x .tick + 1) _ ∙ l in
+    sym leads ∙ eqb-true _ _ f
+
+silent-run : (L t : ℕ) (x : System) → x .n ≤ 8 → All (Silent L) (moments t x)
+unfolding moments
+silent-run L zero x small = tt
+silent-run L (suc t) x small = (silent-tick L x small, silent-run L t (tick x) (rw (tick-n x) small))
+
+silent-command : (L : ℕ) (c : Command) (x : System) → Arrived x → Accepts c x → All (Silent L) (ticksOf c x)
+silent-command L (SetUp n period) x h a = tt
+silent-command L (Start p) x h a = tt
+silent-command L (Crash p) x h a = tt
+silent-command L (Link p q d) x h a = tt
+silent-command L (Run t) x h (r, l, room) = silent-run L t x (h .reached r .sound .n-high)
+silent-command L (Lose p q) x h a = tt
+silent-command L Report x h a = tt
+
+silent : (L : ℕ) (es : List (List ℕ)) (x : System) → Arrived x → All (Silent L) (befores es x)
+unfolding befores
+silent L [] x h = tt
+silent L (e ∷ es) x h =
+    all-append (Silent L) (cond (accepted x e) (ticksOf (decode e) x) []) (befores es (after x e))
+    (cond-elim (All (Silent L)) (accepted x e) (λ t. silent-command L (decode e) x h (accepts (decode e) x (ruling-tests x e (eqb-true _ _ t)))) (λ t. tt))
+    (silent L es (after x e) (after-arrived x e h))
+
+-- (k - 1)(d - 1)(d - 2) / 2
+half-of : (j m : ℕ) → j * (m + 1) * m / 2 ≡ j * tri m
+half-of j m =
+    let e : j * (m + 1) * m ≡ 2 * (j * tri m) = omega (arith, ap (λ x. j * x) (tri-double m)) in
+    omega arith
+
+half-small : (j : ℕ) → j * 0 * 0 / 2 ≡ j * tri 0
+unfolding tri
+half-small j = omega arith
+
+half : (k d : ℕ) → (k - 1) * (d - 1) * (d - 2) / 2 ≡ (k - 1) * tri (d - 2)
+half k zero = half-small (k - 1)
+half k (suc zero) = half-small (k - 1)
+half k (suc (suc m)) =
+    let a : suc (suc m) - 1 ≡ m + 1 = omega arith in
+    let b : suc (suc m) - 2 ≡ m = omega arith in
+    rw (a, b) (half-of (k - 1) m)
+
+-- From a reached system.
+few : (d L : ℕ) (es : List (List ℕ)) (s : System) (h : Reached s) → FirstUp s L → Quiet d es s → dividedTicks L (befores es s) ≤ bound d s
+unfolding upHeads
+few d L es s h first q =
+    rw half
+    (walk K _ es s (q .permitted) (q .none-lost) (q .none-cut) (q .within)
+    (record { inv = begin-inv s h d L first (q .arriving); early = λ e. omega arith; late = λ e. omega (arith, h .sound .period-low) })
+    (λ p ip. refl))
+  where
+    K : Stretch
+    K = from-here s h d L first
+
+pub settling : Settling
+settling bytes stretch d L ok first quiet =
+    let f : Followed (length bytes) fresh bytes (schedule bytes) = accepted-schedule bytes ok in
+    let s : System = schedule bytes .system in
+    let a : Arrived s = subst Arrived (sym (f .system)) (reached-arrived (commands bytes) fresh (f .allowed) fresh-arrived) in
+    let g : FromFresh (commands bytes) s = from-schedule bytes ok in
+    let i : In (s .n) L = record { low = first .low; high = first .high } in
+    let h : Reached s = a .reached (g .is-ready L i) in
+    let u : FirstUp s L =
+    record {
+      inside = i;
+      is-up = g .latest L i ∙ first .is-up;
+      fewest = λ p ip v ne. same (counts s L) (counts s p) L p (g .counted L i) (g .counted p ip) (first .fewest p (ip .low) (ip .high) (sym (g .latest p ip) ∙ v) ne);
+    } in
+    (record { few = few d L stretch s h u quiet; silent = silent L stretch s a; answers = λ k. answers k stretch s a }, f .system)
+  where
+    same : (a b x y : ℕ) {a′ b′ : ℕ} → a ≡ a′ → b ≡ b′ → (a′ < b′) ⊎ ((a′ ≡ b′) × (x < y)) → (a < b) ⊎ ((a ≡ b) × (x < y))
+    same a b x y e f (inl l) = inl (omega arith)
+    same a b x y e f (inr l) = inr (e ∙ l .0 ∙ sym f, l .1)

@@ -1,0 +1,19 @@
+-- The proof of demand 3, in its order, then its instances and the code.
+pub mod A1-Sane
+pub mod A2-Reached
+pub mod A3-Reaching
+pub mod B-Calm
+pub mod D-Deadline
+pub mod E1-Phase
+pub mod E2-Follower
+pub mod E3-Invariant
+pub mod F-Potential
+pub mod G1-Sums
+pub mod G2-Counting
+pub mod G3-Begins
+pub mod G4-Walk
+pub mod H-Demand
+pub mod Instance
+pub mod OfCode
+pub mod SomeCode
+pub mod Tested
