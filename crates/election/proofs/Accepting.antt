@@ -22,7 +22,7 @@ abbrev pub Accepts : Command → System → Type 0
 Accepts (SetUp n period) s = (s .ready ≡ false) × (2 ≤ n) × (n ≤ 8) × (16 ≤ period) × (period ≤ 255)
 Accepts (Start p) s = (s .ready ≡ true) × In (s .n) p × (station s p .up ≡ false) × (station s p .incarnation < 4095)
 Accepts (Crash p) s = (s .ready ≡ true) × In (s .n) p × (station s p .up ≡ true)
-Accepts (Link p q d) s = (s .ready ≡ true) × In (s .n) p × In (s .n) q × (p ≢ q) × (d ≤ 64)
+Accepts (Link p q d) s = (s .ready ≡ true) × In (s .n) p × In (s .n) q × (p ≢ q) × (d ≤ longestDelay)
 Accepts (Run t) s = (s .ready ≡ true) × (0 < t) × (s .tick + t ≤ 1000000)
 Accepts (Lose p q) s = (s .ready ≡ true) × In (s .n) p × In (s .n) q × (p ≢ q)
 Accepts Report s = s .ready ≡ true

@@ -9,8 +9,7 @@ use Rattle.station.specs.Rules.{timeoutsOf, started, crashed, joined, adopted, 
 use Rattle.fit.specs.Fit.{ranges, keptIn, cleared, countsIn, timeoutsIn, alive, slotIn, timerIn, standing, fit}
 use Rattle.election.specs.Breaches.{verdicts, Clauses}
 use Rattle.election.specs.System.{messages, holding, fresh, initial}
-use Rattle.election.specs.Tick.{heardLink, heardAll, expiredNow, slottedNow, sending, later, sent, tick, ticks}
-use Rattle.election.specs.Tick.{settled as settledIn}
+use Rattle.election.specs.Tick.{heardLink, heardAll, expiredNow, slottedNow, sending, later, sent, tick, ticks, settled as settledIn}
 use Rattle.election.specs.Sound.{emptyStation, emptyMessage, messageIn, beforeSlot, linkIn, emptyPlace, emptySeat, placeIn, stationIn, sound}
 use Rattle.election.specs.Commands.{decode, refusal, perform, command}
 use Rattle.election.specs.Schedule.{follow, schedule}

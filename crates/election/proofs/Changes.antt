@@ -8,15 +8,14 @@ use native.Mathlib.Omega.{arith}
 use lib.ListN.{length, getD}
 use lib.Seq.{getD-set-same, getD-set-other}
 use Rattle.lists.proofs.Sets.{within-list, set-keeps}
-use Rattle.fit.specs.Fit.{fit, fitStart}
+use Rattle.fit.specs.Fit.{fit, fitStart, longestDelay}
 use Rattle.station.specs.Rules.{started, crashed}
 use Rattle.station.specs.declared.Station.{Station}
 use Rattle.fit.proofs.Between.{of-start, of-crash}
 use Rattle.station.proofs.Fields.{started-slot, crashed-up}
 use Rattle.fit.proofs.Keeps.{start-keeps, crash-keeps}
 use Rattle.fit.proofs.Tests.{fit-ranges}
-use Rattle.election.specs.Commands.{withStation, withDelay, withoutMessages}
-use Rattle.election.specs.System.{noStation, noLink, station, place, from, to, isLink, holding}
+use Rattle.election.specs.System.{withStation, withDelay, withoutMessages, noStation, noLink, station, place, from, to, isLink, holding}
 use Rattle.election.specs.declared.Link.{Link}
 use Rattle.election.specs.declared.System.{System}
 use Rattle.election.proofs.InitialSound.{empty-linked}
@@ -83,7 +82,7 @@ module _ (s : System) (f : Sound s) (p q : ℕ) (hp : In (s .n) p) (hq : In (s .
       let there : isLink (s .n) (from (place p q)) (to (place p q)) ≡ true = rw (from-place p q wp wq, to-place p q wp wq) (is-link (s .n) p q hp hq ne) in
       true≢false (sym there ∙ sym (ap (λ x. isLink (s .n) (from x) (to x)) i) ∙ e)
 
-  pub delay-sound : (d : ℕ) → d ≤ 64 → Sound (withDelay p q d s)
+  pub delay-sound : (d : ℕ) → d ≤ longestDelay → Sound (withDelay p q d s)
   delay-sound d h =
       record {
         n-low = f .n-low;
@@ -94,7 +93,7 @@ module _ (s : System) (f : Sound s) (p q : ℕ) (hp : In (s .n) p) (hq : In (s .
         fits = f .fits;
         few = f .few;
         no-station = f .no-station;
-        short = λ a b ha hb other. set-keeps (λ y. y ≤ 64) (s .delays) (place p q) (place a b) d 0 (λ e. h) (f .short a b ha hb other);
+        short = λ a b ha hb other. set-keeps (λ y. y ≤ longestDelay) (s .delays) (place p q) (place a b) d 0 (λ e. h) (f .short a b ha hb other);
         linked = f .linked;
         no-link = λ k l e. rw (getD-set-other (s .delays) (place p q) k d 0 (not-there k e)) (f .no-link k l e);
       }

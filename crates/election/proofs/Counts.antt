@@ -15,11 +15,11 @@ use Rattle.station.specs.Rules.{started, crashed}
 use Rattle.station.specs.declared.Station.{Station}
 use Rattle.station.proofs.Fields.{started-count, started-up, crashed-count, crashed-up}
 use Rattle.election.specs.Claims.{CountsStarts, UpIsLatest, CountsNeverFall}
-use Rattle.election.specs.Commands.{Command, SetUp, Start, Crash, Link, Run, Lose, Report, decode, tests, refusal, withStation, perform, command}
+use Rattle.election.specs.Commands.{Command, SetUp, Start, Crash, Link, Run, Lose, Report, decode, tests, refusal, perform, command}
+use Rattle.election.specs.System.{withStation, station, fresh, initial}
 use Rattle.election.specs.History.{commands, starts, isUp, reached}
 use Rattle.election.specs.Schedule.{schedule}
 use Rattle.election.specs.Sound.{sound}
-use Rattle.election.specs.System.{station, fresh, initial}
 use Rattle.election.specs.Tick.{tick, ticks}
 use Rattle.election.specs.declared.System.{System}
 use Rattle.election.proofs.Accepting.{Accepts, accepts}

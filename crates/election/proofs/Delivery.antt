@@ -10,12 +10,13 @@ use native.Mathlib.Omega.{arith}
 use lib.Dec.{eqb}
 use borrow.Author.Tests.{eqb-true}
 use Rattle.lists.specs.Fold.{each}
-use Rattle.fit.specs.Fit.{fit, flight, fitMessage, fitHear}
+use Rattle.fit.specs.Fit.{fit, flight, fitMessage, fitHear, longestDelay}
 use Rattle.station.specs.Rules.{heard}
 use Rattle.station.specs.declared.Station.{Station}
 use Rattle.fit.proofs.Handed.{hearing-of, of-message}
 use Rattle.fit.proofs.Keeps.{During, Next, fit-during, fit-hears, heard-during, hear-keeps}
 use Rattle.fit.proofs.Tests.{counts-of}
+use Rattle.election.specs.Heads.{byCounts}
 use Rattle.election.specs.Tick.{heardLink}
 use Rattle.election.specs.declared.Message.{Message}
 use Rattle.election.proofs.Links.{Posted}
@@ -56,10 +57,10 @@ module _ (me n period tick q : ℕ) (sender : Station) (hq : In n q) (other : q 
 
   -- the messages after one that was heard
   pub goes-on : (low : ℕ) (ms : List Message) (x : Station)
-      → tick + 1 + period ≤ low + 64 → period ≤ low
+      → tick + 1 + period ≤ low + longestDelay → period ≤ low
       → Spaced (Posted n period tick sender) period low ms
       → Again me n period (tick + 1) q x
-      → Again me n period (tick + 1) q (heardLink me q (tick + 1) ms x)
+      → Again me n period (tick + 1) q (heardLink byCounts me q (tick + 1) ms x)
   unfolding heardLink
   goes-on low ms x h g none a = a
   goes-on low ms x h g (more {m = m} {ms = rest} l p r) a =
@@ -69,8 +70,8 @@ module _ (me n period tick q : ℕ) (sender : Station) (hq : In n q) (other : q 
       gap = omega (arith, p .sent-by)
 
       at : (b : Bool)
-          → ((y : Station) → Again me n period (tick + 1) q y → Again me n period (tick + 1) q (heardLink me q (tick + 1) rest y))
-          → Again me n period (tick + 1) q (heardLink me q (tick + 1) rest (cond b (heard me q (m .counts) (tick + 1) x) x))
+          → ((y : Station) → Again me n period (tick + 1) q y → Again me n period (tick + 1) q (heardLink byCounts me q (tick + 1) rest y))
+          → Again me n period (tick + 1) q (heardLink byCounts me q (tick + 1) rest (cond b (byCounts me q m (tick + 1) x) x))
       at true go = go _ (heard-again me n period (tick + 1) q (m .counts) x (a .next q (m .counts) (inr (refl, gap)) (posted-fits m p)))
       at false go = go x a
 
@@ -78,15 +79,15 @@ module _ (me n period tick q : ℕ) (sender : Station) (hq : In n q) (other : q 
   pub hears-link : (k low : ℕ) (ms : List Message) (x : Station) → k < q
       → Spaced (Posted n period tick sender) period low ms
       → Ready me n period (tick + 1) k x
-      → Ready me n period (tick + 1) q (heardLink me q (tick + 1) ms x)
+      → Ready me n period (tick + 1) q (heardLink byCounts me q (tick + 1) ms x)
   unfolding heardLink
   hears-link k low ms x h none a = ready-rises me n period (tick + 1) k q x (omega arith) a
   hears-link k low ms x h (more {m = m} {ms = rest} l p r) a =
       at (eqb (m .due) (tick + 1)) refl (λ y b. hears-link k (m .sent + period) rest y h r b)
     where
       at : (b : Bool) → eqb (m .due) (tick + 1) ≡ b
-          → ((y : Station) → Ready me n period (tick + 1) k y → Ready me n period (tick + 1) q (heardLink me q (tick + 1) rest y))
-          → Ready me n period (tick + 1) q (heardLink me q (tick + 1) rest (cond b (heard me q (m .counts) (tick + 1) x) x))
+          → ((y : Station) → Ready me n period (tick + 1) k y → Ready me n period (tick + 1) q (heardLink byCounts me q (tick + 1) rest y))
+          → Ready me n period (tick + 1) q (heardLink byCounts me q (tick + 1) rest (cond b (byCounts me q m (tick + 1) x) x))
       at true e go =
           let due : m .due ≡ tick + 1 = eqb-true (m .due) (tick + 1) e in
           again-ready me n period (tick + 1) q _
@@ -99,17 +100,17 @@ module _ (me n period tick : ℕ) (sender : ℕ → Station) (inbox : ℕ → Li
     (mail : (q : ℕ) → In n q → q ≢ me → Spaced (Posted n period tick (sender q)) period 0 (inbox q))
     (none-own : inbox me ≡ []) where
   pub hears-below : (j : ℕ) (x : Station) → j ≤ n → Ready me n period (tick + 1) 0 x
-      → Ready me n period (tick + 1) j (each j (λ k. heardLink me (k + 1) (tick + 1) (inbox (k + 1))) x)
+      → Ready me n period (tick + 1) j (each j (λ k. heardLink byCounts me (k + 1) (tick + 1) (inbox (k + 1))) x)
   unfolding each
   hears-below zero x h a = a
   hears-below (suc j) x h a = at (ℕ-discrete (j + 1) me) (hears-below j x (omega arith) a)
     where
       y : Station
-      y = each j (λ k. heardLink me (k + 1) (tick + 1) (inbox (k + 1))) x
+      y = each j (λ k. heardLink byCounts me (k + 1) (tick + 1) (inbox (k + 1))) x
 
-      at : Dec (j + 1 ≡ me) → Ready me n period (tick + 1) j y → Ready me n period (tick + 1) (suc j) (heardLink me (j + 1) (tick + 1) (inbox (j + 1)) y)
+      at : Dec (j + 1 ≡ me) → Ready me n period (tick + 1) j y → Ready me n period (tick + 1) (suc j) (heardLink byCounts me (j + 1) (tick + 1) (inbox (j + 1)) y)
       at (yes e) r =
-          rw (heard-none me (j + 1) (tick + 1) (inbox (j + 1)) y (ap inbox e ∙ none-own)) (ready-rises me n period (tick + 1) j (suc j) y (omega arith) r)
+          rw (heard-none byCounts me (j + 1) (tick + 1) (inbox (j + 1)) y (ap inbox e ∙ none-own)) (ready-rises me n period (tick + 1) j (suc j) y (omega arith) r)
       at (no e) r =
           let i : In n (j + 1) = seat-in n j (omega arith) in
           ready-rises me n period (tick + 1) (j + 1) (suc j) _ (omega arith)

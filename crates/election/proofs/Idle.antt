@@ -18,10 +18,11 @@ use Rattle.lists.proofs.Entries.{length-upTo, getD-upTo}
 use Rattle.lists.proofs.Fold.{each-keeps}
 use Rattle.lists.proofs.Test.{all-at}
 use Rattle.station.specs.declared.Station.{Station}
-use Rattle.election.specs.Idle.{quietStation, quietLink, quietAt, idle, atTick, Held, IdleHeld, IdleTicks, TickHeld}
+use Rattle.election.specs.Heads.{Hearing, hearing}
+use Rattle.election.specs.Idle.{quietStation, quietLink, quietAt, idle, Held, IdleHeld, IdleTicks, TickHeld}
+use Rattle.election.specs.System.{atTick, noStation, noMessage, noLink, station, place, from, to, messages, holding, underway, isLink, renewed}
 use Rattle.election.specs.Sound.{messageAt}
-use Rattle.election.specs.System.{noStation, noMessage, noLink, station, place, from, to, messages, holding, underway, isLink}
-use Rattle.election.specs.Tick.{next, heardLink, heardAll, expiredNow, slottedNow, settled, sending, sent, underwayAfter, tick, ticks}
+use Rattle.election.specs.Tick.{next, heardLink, heardAll, expiredNow, slottedNow, heardBy, settled, sending, stationNext, sent, underwayAfter, seatNext, sentNext, linkNext, tick, ticks}
 use Rattle.election.specs.declared.Link.{Link}
 use Rattle.election.specs.declared.Message.{Message}
 use Rattle.election.specs.declared.System.{System}
@@ -43,10 +44,10 @@ quiet-none now l e =
     (λ i h. eqb-false (messageAt l i .due) now (not-true (eqb (messageAt l i .due) now) (all-at (l .used) i (λ i. not (eqb (messageAt l i .due) now)) e h)))
 
 -- and nothing is heard
-hears-none-due : (me q now : ℕ) (ms : List Message) (x : Station) → All (λ (m : Message). m .due ≢ now) ms → heardLink me q now ms x ≡ x
+hears-none-due : (hear : Hearing) (me q now : ℕ) (ms : List Message) (x : Station) → All (λ (m : Message). m .due ≢ now) ms → heardLink hear me q now ms x ≡ x
 unfolding heardLink
-hears-none-due me q now [] x h = refl
-hears-none-due me q now (m ∷ ms) x h = rw (ne-eqb (m .due) now (h .0)) (hears-none-due me q now ms x (h .1))
+hears-none-due hear me q now [] x h = refl
+hears-none-due hear me q now (m ∷ ms) x h = rw (ne-eqb (m .due) now (h .0)) (hears-none-due hear me q now ms x (h .1))
 
 -- what idle says
 module _ (s : System) (e : idle s ≡ true) where
@@ -80,18 +81,18 @@ module _ (s : System) (e : idle s ≡ true) where
 
   -- so a station stays as it is, and sends nothing
   module _ (k : ℕ) (h : k < s .n) where
-    hears-nothing : heardAll (s .n) (k + 1) (next s) (λ q. underway s q (k + 1)) (station s (k + 1)) ≡ station s (k + 1)
+    hears-nothing : heardBy s (k + 1) (station s (k + 1)) ≡ station s (k + 1)
     unfolding heardAll
     hears-nothing =
-        each-keeps (λ y. y ≡ station s (k + 1)) (s .n) (λ j. heardLink (k + 1) (j + 1) (next s) (underway s (j + 1) (k + 1))) (station s (k + 1))
-        (λ j y l r. hears-none-due (k + 1) (j + 1) (next s) (underway s (j + 1) (k + 1)) y (no-message j k l h) ∙ r) refl
+        each-keeps (λ y. y ≡ station s (k + 1)) (s .n) (λ j. heardLink (hearing s) (k + 1) (j + 1) (next s) (underway s (j + 1) (k + 1))) (station s (k + 1))
+        (λ j y l r. hears-none-due (hearing s) (k + 1) (j + 1) (next s) (underway s (j + 1) (k + 1)) y (no-message j k l h) ∙ r) refl
 
     settled-same : settled s (k + 1) ≡ station s (k + 1)
     unfolding settled expiredNow
     settled-same =
         cond-elim (λ y. y ≡ station s (k + 1)) (station s (k + 1) .up) (λ u. rw (hears-nothing, no-timer k h u)) (λ u. refl)
 
-    slotted-same : slottedNow (s .period) (next s) (settled s (k + 1)) ≡ station s (k + 1)
+    slotted-same : stationNext s (k + 1) ≡ station s (k + 1)
     unfolding slottedNow
     slotted-same = rw (settled-same, no-slot k h)
 
@@ -108,7 +109,7 @@ module _ (s : System) (full : Held s) (e : idle s ≡ true) where
       (λ k h. (let l : k < 8 = omega (arith, length-upTo 8 f) in getD-upTo 8 f k noStation l ∙ go k (decLt k (s .n))))
     where
       f : ℕ → Station
-      f k = cond (ltb k (s .n)) (slottedNow (s .period) (next s) (settled s (k + 1))) (getD (s .stations) k noStation)
+      f = seatNext s
 
       go : (k : ℕ) → Dec (k < s .n) → f k ≡ getD (s .stations) k noStation
       go k (yes l) = let z : k + 1 - 1 ≡ k = omega arith in rw (lt-ltb k (s .n) l) (slotted-same s e k l ∙ ap (λ i. getD (s .stations) i noStation) z)
@@ -121,7 +122,7 @@ module _ (s : System) (full : Held s) (e : idle s ≡ true) where
       (λ k h. (let l : k < 8 = omega (arith, length-upTo 8 f) in getD-upTo 8 f k 0 l ∙ go k (decLt k (s .n))))
     where
       f : ℕ → ℕ
-      f k = cond (ltb k (s .n) && sending s (k + 1)) (getD (s .sent) k 0 + (s .n - 1)) (getD (s .sent) k 0)
+      f = sentNext s
 
       go : (k : ℕ) → Dec (k < s .n) → f k ≡ getD (s .sent) k 0
       go k (yes l) = rw (sends-nothing s e k l, and-false)
@@ -151,7 +152,7 @@ module _ (s : System) (full : Held s) (e : idle s ≡ true) where
       (λ k h. (let l : k < 64 = omega (arith, length-upTo 64 f) in getD-upTo 64 f k noLink l ∙ go k l (isLink (s .n) (from k) (to k)) refl))
     where
       f : ℕ → Link
-      f k = cond (isLink (s .n) (from k) (to k)) (holding (underwayAfter s (from k) (to k))) (getD (s .links) k noLink)
+      f = linkNext s
 
       go : (k : ℕ) → k < 64 → (b : Bool) → isLink (s .n) (from k) (to k) ≡ b → cond b (holding (underwayAfter s (from k) (to k))) (getD (s .links) k noLink) ≡ getD (s .links) k noLink
       go k h true i =
@@ -164,16 +165,7 @@ module _ (s : System) (full : Held s) (e : idle s ≡ true) where
 pub idle-held : IdleHeld
 unfolding tick atTick
 idle-held s full e =
-    λ i. record {
-      ready = s .ready;
-      n = s .n;
-      period = s .period;
-      tick = next s;
-      stations = same-stations s full e i;
-      sent = same-sent s full e i;
-      delays = s .delays;
-      links = same-links s full e i;
-    }
+    λ i. renewed (next s) (same-stations s full e i) (same-sent s full e i) (s .delays) (same-links s full e i) s
 
 -- whatever the counter
 pub held-at : (t : ℕ) (s : System) → Held s → Held (atTick t s)
@@ -194,8 +186,8 @@ pub tick-held : TickHeld
 unfolding tick
 tick-held s e u before =
     record {
-      stations = length-upTo 8 (λ k. cond (ltb k (s .n)) (slottedNow (s .period) (next s) (settled s (k + 1))) (getD (s .stations) k noStation));
-      sent = length-upTo 8 (λ k. cond (ltb k (s .n) && sending s (k + 1)) (getD (s .sent) k 0 + (s .n - 1)) (getD (s .sent) k 0));
+      stations = length-upTo 8 (seatNext s);
+      sent = length-upTo 8 (sentNext s);
       links = length-upTo 64 link;
       held = λ k h i. subst (λ l. holding (messages l) ≡ l) (sym (at k h i)) (again k i);
     }

@@ -10,7 +10,7 @@ use lib.Dec.{ltb}
 use borrow.Author.Tests.{lt-ltb, le-ltb}
 use Rattle.lists.proofs.Entries.{getD-upTo}
 use Rattle.lists.proofs.Test.{all-of}
-use Rattle.fit.specs.Fit.{fit}
+use Rattle.fit.specs.Fit.{fit, longestDelay}
 use Rattle.station.specs.declared.Station.{Station}
 use Rattle.fit.proofs.Down.{down-cleared, down-fits}
 use Rattle.station.proofs.Vectors.{zeros-at}
@@ -68,7 +68,7 @@ module _ (n period : ℕ) (n-low : 2 ≤ n) (n-high : n ≤ 8) (p-low : 16 ≤ p
   initial-seat k l h =
       rw (getD-upTo 8 (λ k. unstarted (cond (ltb k n) (k + 1) 0)) k noStation h, le-ltb k n l, zeros-at k) empty-seat
 
-  initial-short : (p q : ℕ) → In n p → In n q → p ≢ q → delay (initial n period) p q ≤ 64
+  initial-short : (p q : ℕ) → In n p → In n q → p ≢ q → delay (initial n period) p q ≤ longestDelay
   unfolding initial
   initial-short p q hp hq ne =
       let wp : In 8 p = widen n p n-high hp in

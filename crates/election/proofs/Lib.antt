@@ -10,6 +10,7 @@ pub mod Follow
 pub mod Followed
 pub mod FromOffset
 pub mod GoingOn
+pub mod Heads
 pub mod Idle
 pub mod InitialSound
 pub mod KeepsSound

@@ -28,7 +28,7 @@ use Rattle.election.proofs.Spaced.{Spaced, spaced-at, spaced-apart, spa
 pub record Posted (n period tick : ℕ) (sender : Station) (m : Message) : Type 0 where
   pub sent-by : m .sent ≤ tick
   pub due-after : tick < m .due
-  pub due-by : m .due ≤ m .sent + 64
+  pub due-by : m .due ≤ m .sent + longestDelay
   pub counts : countsIn n (m .counts) ≡ true
   pub before : sender .up ≡ true → m .sent + period ≤ sender .slot
 
@@ -58,9 +58,9 @@ module _ (n period tick : ℕ) (sender : Station) (m : Message) where
 
 -- a link from a sender, place by place
 pub record Linked (n period tick : ℕ) (sender : Station) (l : Link) : Type 0 where
-  pub few : l .used ≤ 4
+  pub few : l .used ≤ places
   pub held : (k : ℕ) → k < l .used → Posted n period tick sender (messageAt l k)
-  pub rest : (k : ℕ) → k < 4 → l .used ≤ k → emptyMessage (messageAt l k) ≡ true
+  pub rest : (k : ℕ) → k < places → l .used ≤ k → emptyMessage (messageAt l k) ≡ true
   pub apart : (k : ℕ) → suc k < l .used → messageAt l k .sent + period ≤ messageAt l (suc k) .sent
 
 module _ (n period tick : ℕ) (sender : Station) (l : Link) where
@@ -71,7 +71,7 @@ module _ (n period tick : ℕ) (sender : Station) (l : Link) where
   unfolding linkIn
   linked-of e =
       let (u, p, o) = three (leb (l .used) places) (placesIn n period tick sender l) (ordered period l) e in
-      let few : l .used ≤ 4 = leb-true (l .used) places u in
+      let few : l .used ≤ places = leb-true (l .used) places u in
       record {
         few = few;
         held = λ k h. posted-of n period tick sender (messageAt l k) (rw (lt-ltb k (l .used) h) at (all-at places k placed p (omega arith)));
@@ -86,7 +86,7 @@ module _ (n period tick : ℕ) (sender : Station) (l : Link) where
   of-linked f =
       rw (le-leb (l .used) places (f .few), all-of places placed (λ k h. at k h (decLt k (l .used))), all-of places (spaced period l) (λ k h. next k (decLt (k + 1) (l .used))))
     where
-      at : (k : ℕ) → k < 4 → Dec (k < l .used) → placed k ≡ true
+      at : (k : ℕ) → k < places → Dec (k < l .used) → placed k ≡ true
       at k h (yes i) = rw (lt-ltb k (l .used) i) (of-posted n period tick sender (messageAt l k) (f .held k i))
       at k h (no i) = rw (le-ltb k (l .used) (omega arith)) (f .rest k h (omega arith))
 
@@ -103,24 +103,24 @@ module _ (n period tick : ℕ) (sender : Station) (l : Link) where
       spaced-take 0 (l .used) (l .messages) (λ k h. within-list (λ (m : Message). tick < m .due) (l .messages) k noMessage (λ i. omega arith) (f .held k h .due-after)) (f .held) (f .apart) (λ h. omega arith)
 
 -- what a link that holds up to four messages has at its places
-module _ (ms : List Message) (h : length ms ≤ 4) where
+module _ (ms : List Message) (h : length ms ≤ places) where
   pub holding-used : holding ms .used ≡ length ms
   unfolding holding
   holding-used = refl
 
   pub holding-at : (k : ℕ) → k < length ms → messageAt (holding ms) k ≡ getD ms k noMessage
   unfolding holding over
-  holding-at k i = List·getD-append ms (drop (length ms) (replicate 4 unused)) noMessage k i
+  holding-at k i = List·getD-append ms (drop (length ms) (replicate places unused)) noMessage k i
 
-  pub holding-rest : (k : ℕ) → k < 4 → length ms ≤ k → messageAt (holding ms) k ≡ unused
+  pub holding-rest : (k : ℕ) → k < places → length ms ≤ k → messageAt (holding ms) k ≡ unused
   unfolding holding over
   holding-rest k i j =
       let e : length ms + (k - length ms) ≡ k = omega arith in
-      ap (λ x. getD (ms ++ drop (length ms) (replicate 4 unused)) x noMessage) (sym e)
-      ∙ getD-append-add ms (drop (length ms) (replicate 4 unused)) (k - length ms) noMessage
-      ∙ getD-drop (length ms) (replicate 4 unused) (k - length ms) noMessage
-      ∙ ap (λ x. getD (replicate 4 unused) x noMessage) e
-      ∙ getD-replicate 4 k unused noMessage i
+      ap (λ x. getD (ms ++ drop (length ms) (replicate places unused)) x noMessage) (sym e)
+      ∙ getD-append-add ms (drop (length ms) (replicate places unused)) (k - length ms) noMessage
+      ∙ getD-drop (length ms) (replicate places unused) (k - length ms) noMessage
+      ∙ ap (λ x. getD (replicate places unused) x noMessage) e
+      ∙ getD-replicate places k unused noMessage i
 
 -- counts that are all zero are in range
 pub zeros-in : (n : ℕ) → Counts n (replicate 8 0)
@@ -132,7 +132,7 @@ unfolding emptyMessage
 unused-empty = of-counts 0 (replicate 8 0) (zeros-in 0)
 
 module _ (n period tick : ℕ) (sender : Station) (ms : List Message) where
-  pub holding-linked : length ms ≤ 4 → Spaced (Posted n period tick sender) period 0 ms → Linked n period tick sender (holding ms)
+  pub holding-linked : length ms ≤ places → Spaced (Posted n period tick sender) period 0 ms → Linked n period tick sender (holding ms)
   holding-linked h f =
       let u : holding ms .used ≡ length ms = holding-used ms h in
       record {

@@ -14,14 +14,14 @@ use Rattle.lists.specs.Fold.{each}
 use Rattle.lists.proofs.Bools.{cond-elim}
 use Rattle.lists.proofs.Entries.{length-upTo, getD-upTo}
 use Rattle.lists.proofs.Fold.{each-keeps}
-use Rattle.station.specs.Rules.{heard, expired, slotted, sends}
 use Rattle.station.specs.declared.Station.{Station}
-use Rattle.station.proofs.Unchanged.{heard-unchanged}
+use Rattle.election.specs.Heads.{hearing, expiring, slotting, announces}
 use Rattle.election.specs.Order.{stationOf, ascending, dueNow, Delivery, delivery, deliveries, delivered, deliveredAll, timerEnds, Desk, chance, afterDeliveries, afterTimers, afterChances, PaperOrder, PaperSent}
 use Rattle.election.specs.System.{noStation, station, underway}
-use Rattle.election.specs.Tick.{next, heardLink, heardAll, expiredNow, slottedNow, settled, sending, tick}
+use Rattle.election.specs.Tick.{next, heardLink, heardAll, expiredNow, slottedNow, heardBy, settled, sending, seatNext, sentNext, tick}
 use Rattle.election.specs.declared.Message.{Message}
 use Rattle.election.specs.declared.System.{System}
+use Rattle.election.proofs.Heads.{hearing-unchanged}
 use Rattle.election.proofs.Steps.{heardAll-unchanged}
 
 -- steps that agree on all that is reached agree in the end
@@ -110,43 +110,43 @@ ifUp-each (suc n) f x keep =
     ∙ ifUp-twice (each n f) (f n) x (each-keeps (λ y. y .up ≡ x .up) n f x (λ k y l e. keep k y ∙ e) refl)
 
 -- (a) one list of deliveries after another
-delivered-append : (now : ℕ) (ds es : List Delivery) (xs : List Station) → deliveredAll now (ds ++ es) xs ≡ deliveredAll now es (deliveredAll now ds xs)
+delivered-append : (s : System) (ds es : List Delivery) (xs : List Station) → deliveredAll s (ds ++ es) xs ≡ deliveredAll s es (deliveredAll s ds xs)
 unfolding deliveredAll
-delivered-append now [] es xs = refl
-delivered-append now (d ∷ ds) es xs = delivered-append now ds es (delivered now d xs)
+delivered-append s [] es xs = refl
+delivered-append s (d ∷ ds) es xs = delivered-append s ds es (delivered s d xs)
 
-delivered-ascending : (now n : ℕ) (f : ℕ → List Delivery) (xs : List Station) → deliveredAll now (ascending n f) xs ≡ each n (λ k. deliveredAll now (f (k + 1))) xs
+delivered-ascending : (s : System) (n : ℕ) (f : ℕ → List Delivery) (xs : List Station) → deliveredAll s (ascending n f) xs ≡ each n (λ k. deliveredAll s (f (k + 1))) xs
 unfolding deliveredAll ascending each
-delivered-ascending now zero f xs = refl
-delivered-ascending now (suc n) f xs =
-    delivered-append now (ascending n f) (f (n + 1)) xs ∙ ap (deliveredAll now (f (n + 1))) (delivered-ascending now n f xs)
+delivered-ascending s zero f xs = refl
+delivered-ascending s (suc n) f xs =
+    delivered-append s (ascending n f) (f (n + 1)) xs ∙ ap (deliveredAll s (f (n + 1))) (delivered-ascending s n f xs)
 
 -- (a) the messages of one link change the receiver alone
-heardLink-up : (p q now : ℕ) (ms : List Message) (x : Station) → heardLink p q now ms x .up ≡ x .up
+heardLink-up : (s : System) (p q now : ℕ) (ms : List Message) (x : Station) → heardLink (hearing s) p q now ms x .up ≡ x .up
 unfolding heardLink
-heardLink-up p q now [] x = refl
-heardLink-up p q now (m ∷ ms) x =
-    heardLink-up p q now ms (cond (eqb (m .due) now) (heard p q (m .counts) now x) x)
-    ∙ cond-elim (λ (y : Station). y .up ≡ x .up) (eqb (m .due) now) (λ e. heard-unchanged p q (m .counts) now x .up) (λ e. refl)
+heardLink-up s p q now [] x = refl
+heardLink-up s p q now (m ∷ ms) x =
+    heardLink-up s p q now ms (cond (eqb (m .due) now) (hearing s p q m now x) x)
+    ∙ cond-elim (λ (y : Station). y .up ≡ x .up) (eqb (m .due) now) (λ e. hearing-unchanged s p q m now x .up) (λ e. refl)
 
-link-delivered : (now p q : ℕ) (ms : List Message) (xs : List Station) → p - 1 < length xs
-    → deliveredAll now (map (delivery p q) (dueNow now ms)) xs ≡ change noStation (p - 1) (ifUp (heardLink p q now ms)) xs
+link-delivered : (s : System) (p q : ℕ) (ms : List Message) (xs : List Station) → p - 1 < length xs
+    → deliveredAll s (map (delivery p q) (dueNow (next s) ms)) xs ≡ change noStation (p - 1) (ifUp (heardLink (hearing s) p q (next s) ms)) xs
 unfolding deliveredAll dueNow delivered heardLink
-link-delivered now p q [] xs h = no-change noStation (p - 1) xs ∙ ap (set xs (p - 1)) (ifUp-nothing (stationOf xs p))
-link-delivered now p q (m ∷ ms) xs h = go (eqb (m .due) now) (link-delivered now p q ms)
+link-delivered s p q [] xs h = no-change noStation (p - 1) xs ∙ ap (set xs (p - 1)) (ifUp-nothing (stationOf xs p))
+link-delivered s p q (m ∷ ms) xs h = go (eqb (m .due) (next s)) (link-delivered s p q ms)
   where
     hear : Station → Station
-    hear = heard p q (m .counts) now
+    hear = hearing s p q m (next s)
 
     go : (b : Bool)
-        → ((ys : List Station) → p - 1 < length ys → deliveredAll now (map (delivery p q) (dueNow now ms)) ys ≡ change noStation (p - 1) (ifUp (heardLink p q now ms)) ys)
-        → deliveredAll now (map (delivery p q) (cond b (m ∷ dueNow now ms) (dueNow now ms))) xs
-        ≡ change noStation (p - 1) (ifUp (λ x. heardLink p q now ms (cond b (hear x) x))) xs
+        → ((ys : List Station) → p - 1 < length ys → deliveredAll s (map (delivery p q) (dueNow (next s) ms)) ys ≡ change noStation (p - 1) (ifUp (heardLink (hearing s) p q (next s) ms)) ys)
+        → deliveredAll s (map (delivery p q) (cond b (m ∷ dueNow (next s) ms) (dueNow (next s) ms))) xs
+        ≡ change noStation (p - 1) (ifUp (λ x. heardLink (hearing s) p q (next s) ms (cond b (hear x) x))) xs
     go true r =
-        ap (deliveredAll now (map (delivery p q) (dueNow now ms))) (change-if noStation (p - 1) (stationOf xs p .up) (hear (stationOf xs p)) xs)
+        ap (deliveredAll s (map (delivery p q) (dueNow (next s) ms))) (change-if noStation (p - 1) (stationOf xs p .up) (hear (stationOf xs p)) xs)
         ∙ r (change noStation (p - 1) (ifUp hear) xs) (omega (arith, length-change noStation (p - 1) (ifUp hear) xs))
-        ∙ change-twice noStation (p - 1) (ifUp hear) (ifUp (heardLink p q now ms)) xs h
-        ∙ ap (set xs (p - 1)) (ifUp-twice hear (heardLink p q now ms) (stationOf xs p) (heard-unchanged p q (m .counts) now (stationOf xs p) .up))
+        ∙ change-twice noStation (p - 1) (ifUp hear) (ifUp (heardLink (hearing s) p q (next s) ms)) xs h
+        ∙ ap (set xs (p - 1)) (ifUp-twice hear (heardLink (hearing s) p q (next s) ms) (stationOf xs p) (hearing-unchanged s p q m (next s) (stationOf xs p) .up))
     go false r = r xs h
 
 -- the place of station k + 1 is k
@@ -154,104 +154,108 @@ seat : (k : ℕ) → k + 1 - 1 ≡ k
 seat k = omega arith
 
 -- (a) all deliveries to one receiver
-receiver-delivered : (now n p : ℕ) (inbox : ℕ → List Message) (xs : List Station) → p - 1 < length xs
-    → deliveredAll now (ascending n (λ q. map (delivery p q) (dueNow now (inbox q)))) xs ≡ change noStation (p - 1) (ifUp (heardAll n p now inbox)) xs
+receiver-delivered : (s : System) (n p : ℕ) (inbox : ℕ → List Message) (xs : List Station) → p - 1 < length xs
+    → deliveredAll s (ascending n (λ q. map (delivery p q) (dueNow (next s) (inbox q)))) xs ≡ change noStation (p - 1) (ifUp (heardAll (hearing s) n p (next s) inbox)) xs
 unfolding heardAll
-receiver-delivered now n p inbox xs h =
-    delivered-ascending now n (λ q. map (delivery p q) (dueNow now (inbox q))) xs
-    ∙ each-same (λ ys. p - 1 < length ys) n (λ j. deliveredAll now (map (delivery p (j + 1)) (dueNow now (inbox (j + 1))))) (λ j. change noStation (p - 1) (ifUp (hear j))) xs
-    (λ j ys l. link-delivered now p (j + 1) (inbox (j + 1)) ys)
+receiver-delivered s n p inbox xs h =
+    delivered-ascending s n (λ q. map (delivery p q) (dueNow (next s) (inbox q))) xs
+    ∙ each-same (λ ys. p - 1 < length ys) n (λ j. deliveredAll s (map (delivery p (j + 1)) (dueNow (next s) (inbox (j + 1))))) (λ j. change noStation (p - 1) (ifUp (hear j))) xs
+    (λ j ys l. link-delivered s p (j + 1) (inbox (j + 1)) ys)
     (λ j ys l i. omega (arith, length-change noStation (p - 1) (ifUp (hear j)) ys)) h
     ∙ each-one noStation n (p - 1) (λ j. ifUp (hear j)) xs h
-    ∙ ap (set xs (p - 1)) (ifUp-each n hear (stationOf xs p) (λ j. heardLink-up p (j + 1) now (inbox (j + 1))))
+    ∙ ap (set xs (p - 1)) (ifUp-each n hear (stationOf xs p) (λ j. heardLink-up s p (j + 1) (next s) (inbox (j + 1))))
   where
     hear : ℕ → Station → Station
-    hear j = heardLink p (j + 1) now (inbox (j + 1))
+    hear j = heardLink (hearing s) p (j + 1) (next s) (inbox (j + 1))
 
--- (b) and (c) at one station
+-- (b) at one station
 cond-and : {A : Type 0} (a b : Bool) (x y : A) → cond (a && b) x y ≡ cond a (cond b x y) y
 cond-and true b x y = refl
 cond-and false b x y = refl
 
-timer-ends : (now k : ℕ) (xs : List Station) → timerEnds now (k + 1) xs ≡ change noStation k (ifUp (expiredNow (k + 1) now)) xs
+timer-ends : (s : System) (k : ℕ) (xs : List Station) → timerEnds s (k + 1) xs ≡ change noStation k (ifUp (expiredNow (expiring s (k + 1)) (next s))) xs
 unfolding timerEnds expiredNow
-timer-ends now k xs =
-    rw (seat k) (change-if noStation k (getD xs k noStation .up && eqb (getD xs k noStation .timer) now) (expired (k + 1) (getD xs k noStation)) xs
-    ∙ ap (set xs k) (cond-and (getD xs k noStation .up) (eqb (getD xs k noStation .timer) now) (expired (k + 1) (getD xs k noStation)) (getD xs k noStation)))
+timer-ends s k xs =
+    rw (seat k) (change-if noStation k (getD xs k noStation .up && eqb (getD xs k noStation .timer) (next s)) (expiring s (k + 1) (getD xs k noStation)) xs
+    ∙ ap (set xs k) (cond-and (getD xs k noStation .up) (eqb (getD xs k noStation .timer) (next s)) (expiring s (k + 1) (getD xs k noStation)) (getD xs k noStation)))
 
-chance-stations : (n period now k : ℕ) (d : Desk) → chance n period now (k + 1) d .stations ≡ change noStation k (slottedNow period now) (d .stations)
+-- (c) at one station
+abbrev slots : System → Station → Station
+slots s = slottedNow (slotting s (next s)) (next s)
+
+chance-stations : (s : System) (k : ℕ) (d : Desk) → chance s (k + 1) d .stations ≡ change noStation k (slots s) (d .stations)
 unfolding chance slottedNow
-chance-stations n period now k d =
-    rw (seat k) (change-if noStation k (eqb (getD (d .stations) k noStation .slot) now) (slotted period now (getD (d .stations) k noStation)) (d .stations))
+chance-stations s k d =
+    rw (seat k) (change-if noStation k (eqb (getD (d .stations) k noStation .slot) (next s)) (slotting s (next s) (getD (d .stations) k noStation)) (d .stations))
 
-chances-stations : (n period now m : ℕ) (d : Desk)
-    → each m (λ k. chance n period now (k + 1)) d .stations ≡ each m (λ k. change noStation k (slottedNow period now)) (d .stations)
+chances-stations : (s : System) (m : ℕ) (d : Desk)
+    → each m (λ k. chance s (k + 1)) d .stations ≡ each m (λ k. change noStation k (slots s)) (d .stations)
 unfolding each
-chances-stations n period now zero d = refl
-chances-stations n period now (suc m) d =
-    chance-stations n period now m (each m (λ k. chance n period now (k + 1)) d)
-    ∙ ap (change noStation m (slottedNow period now)) (chances-stations n period now m d)
+chances-stations s zero d = refl
+chances-stations s (suc m) d =
+    chance-stations s m (each m (λ k. chance s (k + 1)) d)
+    ∙ ap (change noStation m (slots s)) (chances-stations s m d)
 
 -- and the sent count, where x is the station before
-chance-sent : (n period now k : ℕ) (d : Desk) (x : Station) → getD (d .stations) k noStation ≡ x
-    → chance n period now (k + 1) d .sent ≡ change 0 k (λ c. cond (x .up && eqb (x .slot) now && sends (k + 1) x) (c + (n - 1)) c) (d .sent)
+chance-sent : (s : System) (k : ℕ) (d : Desk) (x : Station) → getD (d .stations) k noStation ≡ x
+    → chance s (k + 1) d .sent ≡ change 0 k (λ c. cond (x .up && eqb (x .slot) (next s) && announces s (k + 1) x) (c + (s .n - 1)) c) (d .sent)
 unfolding chance
-chance-sent n period now k d x e =
-    rw (seat k, e) (change-if 0 k (x .up && eqb (x .slot) now && sends (k + 1) x) (getD (d .sent) k 0 + (n - 1)) (d .sent))
+chance-sent s k d x e =
+    rw (seat k, e) (change-if 0 k (x .up && eqb (x .slot) (next s) && announces s (k + 1) x) (getD (d .sent) k 0 + (s .n - 1)) (d .sent))
 
 module _ (s : System) (n-high : s .n ≤ 8) (long : length (s .stations) ≡ 8) where
-  abbrev hearing : ℕ → Station → Station
-  hearing k = ifUp (heardAll (s .n) (k + 1) (next s) (λ q. underway s q (k + 1)))
+  abbrev inbox : ℕ → Station → Station
+  inbox k = ifUp (heardBy s (k + 1))
 
   abbrev ending : ℕ → Station → Station
-  ending k = ifUp (expiredNow (k + 1) (next s))
+  ending k = ifUp (expiredNow (expiring s (k + 1)) (next s))
 
-  deliveries-each : afterDeliveries s ≡ each (s .n) (λ k. change noStation k (hearing k)) (s .stations)
+  deliveries-each : afterDeliveries s ≡ each (s .n) (λ k. change noStation k (inbox k)) (s .stations)
   unfolding afterDeliveries deliveries
   deliveries-each =
-      delivered-ascending (next s) (s .n) (λ p. ascending (s .n) (λ q. map (delivery p q) (dueNow (next s) (underway s q p)))) (s .stations)
+      delivered-ascending s (s .n) (λ p. ascending (s .n) (λ q. map (delivery p q) (dueNow (next s) (underway s q p)))) (s .stations)
       ∙ each-same (λ xs. length xs ≡ 8) (s .n)
-      (λ k. deliveredAll (next s) (ascending (s .n) (λ q. map (delivery (k + 1) q) (dueNow (next s) (underway s q (k + 1))))))
-      (λ k. change noStation k (hearing k)) (s .stations)
+      (λ k. deliveredAll s (ascending (s .n) (λ q. map (delivery (k + 1) q) (dueNow (next s) (underway s q (k + 1))))))
+      (λ k. change noStation k (inbox k)) (s .stations)
       (λ k xs l e.
-      receiver-delivered (next s) (s .n) (k + 1) (λ q. underway s q (k + 1)) xs (omega arith)
-      ∙ ap (λ i. change noStation i (hearing k) xs) (seat k))
-      (λ k xs l e. length-change noStation k (hearing k) xs ∙ e) long
+      receiver-delivered s (s .n) (k + 1) (λ q. underway s q (k + 1)) xs (omega arith)
+      ∙ ap (λ i. change noStation i (inbox k) xs) (seat k))
+      (λ k xs l e. length-change noStation k (inbox k) xs ∙ e) long
 
   timers-each : afterTimers s ≡ each (s .n) (λ k. change noStation k (ending k)) (afterDeliveries s)
   unfolding afterTimers
   timers-each =
-      each-same (λ xs. Unit {0}) (s .n) (λ k. timerEnds (next s) (k + 1)) (λ k. change noStation k (ending k)) (afterDeliveries s)
-      (λ k xs l e. timer-ends (next s) k xs) (λ k xs l e. tt) tt
+      each-same (λ xs. Unit {0}) (s .n) (λ k. timerEnds s (k + 1)) (λ k. change noStation k (ending k)) (afterDeliveries s)
+      (λ k xs l e. timer-ends s k xs) (λ k xs l e. tt) tt
 
-  chances-each : afterChances s .stations ≡ each (s .n) (λ k. change noStation k (slottedNow (s .period) (next s))) (afterTimers s)
+  chances-each : afterChances s .stations ≡ each (s .n) (λ k. change noStation k (slots s)) (afterTimers s)
   unfolding afterChances
-  chances-each = chances-stations (s .n) (s .period) (next s) (s .n) (record { stations = afterTimers s; sent = s .sent })
+  chances-each = chances-stations s (s .n) (record { stations = afterTimers s; sent = s .sent })
 
   -- how long the lists are
   deliveries-length : length (afterDeliveries s) ≡ 8
-  deliveries-length = ap length deliveries-each ∙ length-all noStation hearing (s .stations) (s .n) ∙ long
+  deliveries-length = ap length deliveries-each ∙ length-all noStation inbox (s .stations) (s .n) ∙ long
 
   timers-length : length (afterTimers s) ≡ 8
   timers-length = ap length timers-each ∙ length-all noStation ending (afterDeliveries s) (s .n) ∙ deliveries-length
 
   chances-length : length (afterChances s .stations) ≡ 8
-  chances-length = ap length chances-each ∙ length-all noStation (λ k. slottedNow (s .period) (next s)) (afterTimers s) (s .n) ∙ timers-length
+  chances-length = ap length chances-each ∙ length-all noStation (λ k. slots s) (afterTimers s) (s .n) ∙ timers-length
 
   -- what stands in them
-  settled-is : (k : ℕ) → ending k (hearing k (getD (s .stations) k noStation)) ≡ settled s (k + 1)
+  settled-is : (k : ℕ) → ending k (inbox k (getD (s .stations) k noStation)) ≡ settled s (k + 1)
   unfolding settled
   settled-is k =
-      ap (λ i. ending k (hearing k (getD (s .stations) i noStation))) (sym (seat k))
-      ∙ ifUp-twice (heardAll (s .n) (k + 1) (next s) (λ q. underway s q (k + 1))) (expiredNow (k + 1) (next s)) (station s (k + 1))
-      (heardAll-unchanged (s .n) (k + 1) (next s) (λ q. underway s q (k + 1)) (station s (k + 1)) .up)
+      ap (λ i. ending k (inbox k (getD (s .stations) i noStation))) (sym (seat k))
+      ∙ ifUp-twice (heardBy s (k + 1)) (expiredNow (expiring s (k + 1)) (next s)) (station s (k + 1))
+      (heardAll-unchanged s (s .n) (k + 1) (next s) (λ q. underway s q (k + 1)) (station s (k + 1)) .up)
 
   timers-at : (k : ℕ) → k < s .n → getD (afterTimers s) k noStation ≡ settled s (k + 1)
   timers-at k l =
       ap (λ xs. getD xs k noStation) timers-each
       ∙ all-at noStation ending (afterDeliveries s) (s .n) k (omega (arith, deliveries-length)) l
       ∙ ap (λ xs. ending k (getD xs k noStation)) deliveries-each
-      ∙ ap (ending k) (all-at noStation hearing (s .stations) (s .n) k (omega arith) l)
+      ∙ ap (ending k) (all-at noStation inbox (s .stations) (s .n) k (omega arith) l)
       ∙ settled-is k
 
   timers-beyond : (k : ℕ) → s .n ≤ k → getD (afterTimers s) k noStation ≡ getD (s .stations) k noStation
@@ -259,22 +263,22 @@ module _ (s : System) (n-high : s .n ≤ 8) (long : length (s .stations) ≡ 8) 
       ap (λ xs. getD xs k noStation) timers-each
       ∙ all-beyond noStation ending (afterDeliveries s) (s .n) k l
       ∙ ap (λ xs. getD xs k noStation) deliveries-each
-      ∙ all-beyond noStation hearing (s .stations) (s .n) k l
+      ∙ all-beyond noStation inbox (s .stations) (s .n) k l
 
   chances-at : (k : ℕ) → k < 8
       → getD (afterChances s .stations) k noStation
-      ≡ cond (ltb k (s .n)) (slottedNow (s .period) (next s) (settled s (k + 1))) (getD (s .stations) k noStation)
+      ≡ seatNext s k
   chances-at k h = ap (λ xs. getD xs k noStation) chances-each ∙ go (decLt k (s .n))
     where
       chances : ℕ → Station → Station
-      chances k = slottedNow (s .period) (next s)
+      chances k = slots s
 
       go : Dec (k < s .n)
-          → getD (each (s .n) (λ j. change noStation j (slottedNow (s .period) (next s))) (afterTimers s)) k noStation
-          ≡ cond (ltb k (s .n)) (slottedNow (s .period) (next s) (settled s (k + 1))) (getD (s .stations) k noStation)
+          → getD (each (s .n) (λ j. change noStation j (slots s)) (afterTimers s)) k noStation
+          ≡ seatNext s k
       go (yes l) =
           rw (lt-ltb k (s .n) l)
-          (all-at noStation chances (afterTimers s) (s .n) k (omega (arith, timers-length)) l ∙ ap (slottedNow (s .period) (next s)) (timers-at k l))
+          (all-at noStation chances (afterTimers s) (s .n) k (omega (arith, timers-length)) l ∙ ap (slots s) (timers-at k l))
       go (no l) = rw (le-ltb k (s .n) (omega arith)) (all-beyond noStation chances (afterTimers s) (s .n) k (omega arith) ∙ timers-beyond k (omega arith))
 
 pub paper-order : PaperOrder
@@ -284,12 +288,12 @@ paper-order s n-high long =
     (λ k h. (let l : k < 8 = omega (arith, chances-length s n-high long) in chances-at s n-high long k l ∙ sym (getD-upTo 8 f k noStation l)))
   where
     f : ℕ → Station
-    f k = cond (ltb k (s .n)) (slottedNow (s .period) (next s) (settled s (k + 1))) (getD (s .stations) k noStation)
+    f = seatNext s
 
 -- the sent counts
 module _ (s : System) (n-high : s .n ≤ 8) (long : length (s .stations) ≡ 8) where
   abbrev turns : ℕ → Desk
-  turns m = each m (λ k. chance (s .n) (s .period) (next s) (k + 1)) (record { stations = afterTimers s; sent = s .sent })
+  turns m = each m (λ k. chance s (k + 1)) (record { stations = afterTimers s; sent = s .sent })
 
   abbrev counting : ℕ → ℕ → ℕ
   counting k c = cond (sending s (k + 1)) (c + (s .n - 1)) c
@@ -297,15 +301,15 @@ module _ (s : System) (n-high : s .n ≤ 8) (long : length (s .stations) ≡ 8) 
   -- the station of a turn has not been changed by the turns before
   own-turn : (k : ℕ) → k < s .n → getD (turns k .stations) k noStation ≡ settled s (k + 1)
   own-turn k l =
-      ap (λ xs. getD xs k noStation) (chances-stations (s .n) (s .period) (next s) k (record { stations = afterTimers s; sent = s .sent }))
-      ∙ all-beyond noStation (λ j. slottedNow (s .period) (next s)) (afterTimers s) k k (omega arith)
+      ap (λ xs. getD xs k noStation) (chances-stations s k (record { stations = afterTimers s; sent = s .sent }))
+      ∙ all-beyond noStation (λ j. slots s) (afterTimers s) k k (omega arith)
       ∙ timers-at s n-high long k l
 
   sent-each : (m : ℕ) → m ≤ s .n → turns m .sent ≡ each m (λ k. change 0 k (counting k)) (s .sent)
   unfolding each sending
   sent-each zero h = refl
   sent-each (suc m) h =
-      chance-sent (s .n) (s .period) (next s) m (turns m) (settled s (m + 1)) (own-turn m (omega arith))
+      chance-sent s m (turns m) (settled s (m + 1)) (own-turn m (omega arith))
       ∙ ap (change 0 m (counting m)) (sent-each m (omega arith))
 
   chances-sent : afterChances s .sent ≡ each (s .n) (λ k. change 0 k (counting k)) (s .sent)
@@ -316,12 +320,12 @@ module _ (s : System) (n-high : s .n ≤ 8) (long : length (s .stations) ≡ 8) 
     sent-length : length (afterChances s .sent) ≡ 8
     sent-length = ap length chances-sent ∙ length-all 0 counting (s .sent) (s .n) ∙ eight
 
-    sent-at : (k : ℕ) → getD (afterChances s .sent) k 0 ≡ cond (ltb k (s .n) && sending s (k + 1)) (getD (s .sent) k 0 + (s .n - 1)) (getD (s .sent) k 0)
+    sent-at : (k : ℕ) → getD (afterChances s .sent) k 0 ≡ sentNext s k
     sent-at k = ap (λ xs. getD xs k 0) chances-sent ∙ go (decLt k (s .n))
       where
         go : Dec (k < s .n)
             → getD (each (s .n) (λ j. change 0 j (counting j)) (s .sent)) k 0
-            ≡ cond (ltb k (s .n) && sending s (k + 1)) (getD (s .sent) k 0 + (s .n - 1)) (getD (s .sent) k 0)
+            ≡ sentNext s k
         go (yes l) = rw (lt-ltb k (s .n) l) (all-at 0 counting (s .sent) (s .n) k (omega arith) l)
         go (no l) = rw (le-ltb k (s .n) (omega arith)) (all-beyond 0 counting (s .sent) (s .n) k (omega arith))
 
@@ -332,4 +336,4 @@ paper-sent s n-high long eight =
     (λ k h. sent-at s n-high long eight k ∙ sym (getD-upTo 8 f k 0 (omega (arith, sent-length s n-high long eight))))
   where
     f : ℕ → ℕ
-    f k = cond (ltb k (s .n) && sending s (k + 1)) (getD (s .sent) k 0 + (s .n - 1)) (getD (s .sent) k 0)
+    f = sentNext s

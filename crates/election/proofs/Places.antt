@@ -10,8 +10,8 @@ use lib.Dec.{ltb}
 use borrow.Author.Tests.{lt-ltb, ne-eqb}
 use Rattle.lists.specs.Entries.{upTo}
 use Rattle.lists.proofs.Entries.{getD-upTo, take-over}
-use Rattle.election.specs.System.{noStation, noLink, station, place, from, to, sentBy, messages, holding, underway, isLink}
-use Rattle.election.specs.Tick.{next, slottedNow, settled, sending, underwayAfter, tick}
+use Rattle.election.specs.System.{noStation, noLink, station, place, from, to, sentBy, messages, holding, underway, isLink, places}
+use Rattle.election.specs.Tick.{sending, stationNext, underwayAfter, seatNext, sentNext, linkNext, tick}
 use Rattle.election.specs.declared.Message.{Message}
 use Rattle.election.specs.declared.System.{System}
 
@@ -55,9 +55,9 @@ pub is-link : (n p q : ℕ) → In n p → In n q → p ≢ q → isLink n p q �
 is-link n p q hp hq ne = rw (lt-ltb (p - 1) n (omega (arith, hp .low, hp .high)), lt-ltb (q - 1) n (omega (arith, hq .low, hq .high)), ne-eqb p q ne)
 
 -- a link that holds up to four messages has them
-pub messages-holding : (ms : List Message) → length ms ≤ 4 → messages (holding ms) ≡ ms
+pub messages-holding : (ms : List Message) → length ms ≤ places → messages (holding ms) ≡ ms
 unfolding messages holding
-messages-holding ms h = take-over (length ms) ms (replicate 4 _) refl
+messages-holding ms h = take-over (length ms) ms (replicate places _) refl
 
 -- the system after a tick
 module _ (s : System) where
@@ -74,18 +74,18 @@ module _ (s : System) where
   tick-ready = refl
 
   module _ (n-high : s .n ≤ 8) where
-    pub tick-station : (p : ℕ) → In (s .n) p → station (tick s) p ≡ slottedNow (s .period) (next s) (settled s p)
+    pub tick-station : (p : ℕ) → In (s .n) p → station (tick s) p ≡ stationNext s p
     unfolding tick
     tick-station p h =
         let e : p - 1 + 1 ≡ p = omega (arith, h .low) in
-        getD-upTo 8 (λ k. cond (ltb k (s .n)) (slottedNow (s .period) (next s) (settled s (k + 1))) (getD (s .stations) k noStation)) (p - 1) noStation (omega (arith, h .low, h .high))
+        getD-upTo 8 (seatNext s) (p - 1) noStation (omega (arith, h .low, h .high))
         ∙ rw (lt-ltb (p - 1) (s .n) (omega (arith, h .low, h .high)), e)
 
     pub tick-sent : (p : ℕ) → In (s .n) p → sentBy (tick s) p ≡ cond (sending s p) (sentBy s p + (s .n - 1)) (sentBy s p)
     unfolding tick
     tick-sent p h =
         let e : p - 1 + 1 ≡ p = omega (arith, h .low) in
-        getD-upTo 8 (λ k. cond (ltb k (s .n) && sending s (k + 1)) (getD (s .sent) k 0 + (s .n - 1)) (getD (s .sent) k 0)) (p - 1) 0 (omega (arith, h .low, h .high))
+        getD-upTo 8 (sentNext s) (p - 1) 0 (omega (arith, h .low, h .high))
         ∙ rw (lt-ltb (p - 1) (s .n) (omega (arith, h .low, h .high)), e)
 
     pub tick-link : (p q : ℕ) → In (s .n) p → In (s .n) q → p ≢ q → getD (tick s .links) (place p q) noLink ≡ holding (underwayAfter s p q)
@@ -93,8 +93,8 @@ module _ (s : System) where
     tick-link p q hp hq ne =
         let wp : In 8 p = widen (s .n) p n-high hp in
         let wq : In 8 q = widen (s .n) q n-high hq in
-        getD-upTo 64 (λ k. cond (isLink (s .n) (from k) (to k)) (holding (underwayAfter s (from k) (to k))) (getD (s .links) k noLink)) (place p q) noLink (place-in p q wp wq)
+        getD-upTo 64 (linkNext s) (place p q) noLink (place-in p q wp wq)
         ∙ rw (from-place p q wp wq, to-place p q wp wq, is-link (s .n) p q hp hq ne)
 
-    pub tick-underway : (p q : ℕ) → In (s .n) p → In (s .n) q → p ≢ q → length (underwayAfter s p q) ≤ 4 → underway (tick s) p q ≡ underwayAfter s p q
+    pub tick-underway : (p q : ℕ) → In (s .n) p → In (s .n) q → p ≢ q → length (underwayAfter s p q) ≤ places → underway (tick s) p q ≡ underwayAfter s p q
     tick-underway p q hp hq ne h = ap messages (tick-link p q hp hq ne) ∙ messages-holding (underwayAfter s p q) h

@@ -32,7 +32,7 @@ pub record Sound (s : System) : Type 0 where
   pub fits : (p : ℕ) → In (s .n) p → fit p (s .n) (s .period) (s .tick) (station s p) ≡ true
   pub few : (p : ℕ) → In (s .n) p → sentBy s p ≤ 7 * s .tick
   pub no-station : (k : ℕ) → s .n ≤ k → k < 8 → emptySeat (getD (s .stations) k noStation) (getD (s .sent) k 0) ≡ true
-  pub short : (p q : ℕ) → In (s .n) p → In (s .n) q → p ≢ q → delay s p q ≤ 64
+  pub short : (p q : ℕ) → In (s .n) p → In (s .n) q → p ≢ q → delay s p q ≤ longestDelay
   pub linked : (p q : ℕ) → In (s .n) p → In (s .n) q → p ≢ q → Linked (s .n) (s .period) (s .tick) (station s p) (getD (s .links) (place p q) noLink)
   pub no-link : (k : ℕ) → k < 64 → isLink (s .n) (from k) (to k) ≡ false → emptyPlace (getD (s .delays) k 0) (getD (s .links) k noLink) ≡ true
 

@@ -13,8 +13,9 @@ use Rattle.fit.proofs.Handed.{slotting-of}
 use Rattle.fit.proofs.Keeps.{During, during-expires, during-slots, during-fits, slot-keeps, expire-fits, expire-slots}
 use Rattle.fit.proofs.Tests.{of-counts}
 use Rattle.station.proofs.Unchanged.{expired-unchanged}
+use Rattle.election.specs.Heads.{hearing, slotting}
 use Rattle.election.specs.System.{station, underway}
-use Rattle.election.specs.Tick.{next, heardLink, heardAll, expiredNow, slottedNow, settled, sending, tick}
+use Rattle.election.specs.Tick.{next, heardLink, heardAll, expiredNow, slottedNow, heardBy, settled, sending, tick}
 use Rattle.election.specs.declared.System.{System}
 use Rattle.election.proofs.Delivery.{Ready, hears-below, fit-ready}
 use Rattle.election.proofs.Places.{In, tick-station}
@@ -28,9 +29,9 @@ pub record Timed (me n period now : ℕ) (z : Station) : Type 0 where
 
 module _ (me n period now : ℕ) where
   -- (b)
-  pub expires-timed : (y : Station) → During me n period now y → Timed me n period now (expiredNow me now y)
+  pub expires-timed : (y : Station) → During me n period now y → Timed me n period now (expiredNow (expired me) now y)
   expires-timed y d =
-      expiredNow-elim (Timed me n period now) me now y
+      expiredNow-elim (Timed me n period now) (expired me) now y
       (λ due.
       let same : expired me y .slot ≡ y .slot = expired-unchanged me y .slot in
       record {
@@ -40,18 +41,18 @@ module _ (me n period now : ℕ) where
       (λ ne. record { slots = during-slots me n period now y d ne; fits = during-fits me n period now y d ne })
 
   -- (c) leaves a station that fits the end of the tick
-  pub slots-fit : (z : Station) → Timed me n period now z → fit me n period now (slottedNow period now z) ≡ true
+  pub slots-fit : (z : Station) → Timed me n period now z → fit me n period now (slottedNow (slotted period now) now z) ≡ true
   unfolding slotted
-  slots-fit z t = slottedNow-elim (λ (y : Station). fit me n period now y ≡ true) period now z (λ e. slot-keeps me n period now z (t .slots e)) (t .fits)
+  slots-fit z t = slottedNow-elim (λ (y : Station). fit me n period now y ≡ true) (slotted period now) now z (λ e. slot-keeps me n period now z (t .slots e)) (t .fits)
 
 module _ (s : System) (f : Sound s) (before : s .tick < 1000000) (p : ℕ) (h : In (s .n) p) where
   -- what is due from the first j senders is heard, and so is all
-  pub heard-below : station s p .up ≡ true → (j : ℕ) → j ≤ s .n → Ready p (s .n) (s .period) (next s) j (each j (λ k. heardLink p (k + 1) (next s) (underway s (k + 1) p)) (station s p))
+  pub heard-below : station s p .up ≡ true → (j : ℕ) → j ≤ s .n → Ready p (s .n) (s .period) (next s) j (each j (λ k. heardLink (hearing s) p (k + 1) (next s) (underway s (k + 1) p)) (station s p))
   heard-below u j l =
       hears-below p (s .n) (s .period) (s .tick) (λ q. station s q) (λ q. underway s q p) (λ q hq ne. underway-spaced s f q p hq h ne) (underway-self s f p h) j (station s p) l
       (fit-ready p (s .n) (s .period) (s .tick) (station s p) before (f .fits p h) u)
 
-  pub heard-timely : station s p .up ≡ true → During p (s .n) (s .period) (next s) (heardAll (s .n) p (next s) (λ q. underway s q p) (station s p))
+  pub heard-timely : station s p .up ≡ true → During p (s .n) (s .period) (next s) (heardBy s p (station s p))
   unfolding heardAll
   heard-timely u = heard-below u (s .n) (omega arith) .during
 
@@ -62,8 +63,8 @@ module _ (s : System) (f : Sound s) (before : s .tick < 1000000) (p : ℕ) (h : 
   tick-down : station s p .up ≡ false → station (tick s) p ≡ station s p
   tick-down u =
       let none : station s p .slot ≡ 0 = down-slot p (s .n) (s .period) (s .tick) (station s p) (f .fits p h) u in
-      tick-station s (f .n-high) p h ∙ ap (slottedNow (s .period) (next s)) (settled-down s p u)
-      ∙ slottedNow-elim (λ (y : Station). y ≡ station s p) (s .period) (next s) (station s p) (λ e. absurd (omega arith)) (λ e. refl)
+      tick-station s (f .n-high) p h ∙ ap (slottedNow (slotting s (next s)) (next s)) (settled-down s p u)
+      ∙ slottedNow-elim (λ (y : Station). y ≡ station s p) (slotting s (next s)) (next s) (station s p) (λ e. absurd (omega arith)) (λ e. refl)
 
   pub tick-fits : fit p (s .n) (s .period) (next s) (station (tick s) p) ≡ true
   tick-fits = go (station s p .up) refl

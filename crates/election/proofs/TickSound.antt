@@ -8,12 +8,13 @@ use native.Mathlib.Omega.{arith}
 use lib.ListN.{length, getD}
 use lib.Dec.{ltb, eqb}
 use borrow.Author.Tests.{eqb-false, le-ltb}
+use Rattle.fit.specs.Fit.{longestDelay}
 use Rattle.lists.proofs.Bools.{cond-elim}
 use Rattle.lists.proofs.Entries.{getD-upTo}
-use Rattle.election.specs.Claims.{FourPlaces}
+use Rattle.election.specs.Claims.{LinkRoom}
 use Rattle.election.specs.Sound.{emptyPlace, emptySeat}
-use Rattle.election.specs.System.{noStation, noLink, station, place, from, to, delay, sentBy, underway, isLink, holding}
-use Rattle.election.specs.Tick.{next, slottedNow, settled, sending, later, sent, underwayAfter, tick, ticks}
+use Rattle.election.specs.System.{noStation, noLink, station, place, from, to, delay, sentBy, underway, isLink, holding, places}
+use Rattle.election.specs.Tick.{next, settled, sending, later, sent, underwayAfter, seatNext, sentNext, linkNext, tick, ticks}
 use Rattle.election.specs.declared.Message.{Message}
 use Rattle.election.specs.declared.System.{System}
 use Rattle.election.proofs.Links.{Posted, Linked, holding-linked}
@@ -68,11 +69,11 @@ module _ (s : System) (f : Sound s) (before : s .tick < 1000000) where
         go true e true d r = rw append-nil (respace carried r)
         go false e c d r = rw append-nil (respace carried r)
 
-    -- sendings in the last 64 ticks, at least 16 apart
-    pub after-few : length (underwayAfter s p q) ≤ 4
+    -- sendings within the longest delay, at least 16 apart
+    pub after-few : length (underwayAfter s p q) ≤ places
     after-few =
-        let low : Spaced New (s .period) (s .tick - 62) (underwayAfter s p q) = raise (s .tick - 62) (λ m o. omega (arith, o .due-after, o .due-by)) after-spaced in
-        omega (arith, in-window (s .tick - 62) (s .tick + 1) (f .period-low) (λ m o. o .sent-by) (omega arith) (omega arith) low)
+        let low : Spaced New (s .period) (s .tick + 2 - longestDelay) (underwayAfter s p q) = raise (s .tick + 2 - longestDelay) (λ m o. omega (arith, o .due-after, o .due-by)) after-spaced in
+        omega (arith, in-window (s .tick + 2 - longestDelay) (s .tick + 1) (f .period-low) (λ m o. o .sent-by) (omega arith) (omega arith) low)
 
     pub after-linked : Linked (s .n) (s .period) (next s) (station (tick s) p) (getD (tick s .links) (place p q) noLink)
     after-linked =
@@ -89,13 +90,13 @@ module _ (s : System) (f : Sound s) (before : s .tick < 1000000) where
   after-seat : (k : ℕ) → s .n ≤ k → k < 8 → emptySeat (getD (tick s .stations) k noStation) (getD (tick s .sent) k 0) ≡ true
   unfolding tick
   after-seat k l h =
-      rw (getD-upTo 8 (λ k. cond (ltb k (s .n)) (slottedNow (s .period) (next s) (settled s (k + 1))) (getD (s .stations) k noStation)) k noStation h, getD-upTo 8 (λ k. cond (ltb k (s .n) && sending s (k + 1)) (getD (s .sent) k 0 + (s .n - 1)) (getD (s .sent) k 0)) k 0 h, le-ltb k (s .n) l)
+      rw (getD-upTo 8 (seatNext s) k noStation h, getD-upTo 8 (sentNext s) k 0 h, le-ltb k (s .n) l)
       (f .no-station k l h)
 
   after-place : (k : ℕ) → k < 64 → isLink (s .n) (from k) (to k) ≡ false → emptyPlace (getD (tick s .delays) k 0) (getD (tick s .links) k noLink) ≡ true
   unfolding tick
   after-place k h e =
-      rw (getD-upTo 64 (λ k. cond (isLink (s .n) (from k) (to k)) (holding (underwayAfter s (from k) (to k))) (getD (s .links) k noLink)) k noLink h, e)
+      rw (getD-upTo 64 (linkNext s) k noLink h, e)
       (f .no-link k h e)
 
   pub tick-sound : Sound (tick s)
@@ -129,6 +130,6 @@ unfolding ticks
 ticks-ready zero s = refl
 ticks-ready (suc t) s = ticks-ready t (tick s) ∙ tick-ready s
 
-pub four-places : FourPlaces
-four-places s e u h p q p-low p-high q-low q-high ne =
+pub link-room : LinkRoom
+link-room s e u h p q p-low p-high q-low q-high ne =
     after-few s (sound-of s e u) h p q (record { low = p-low; high = p-high }) (record { low = q-low; high = q-high }) ne

@@ -2,12 +2,13 @@
 use mathlib.Core.Path.{_≡_}
 use mathlib.Core.List.{List, [], _∷_, _++_}
 use mathlib.Core.Bool.{Bool, true, false}
-use Prim.Native.Nat.{ℕ}
-use lib.ListN.{set, replicate}
+use Prim.Native.Nat.{ℕ, _+_, _-_}
+use lib.ListN.{replicate}
+use Rattle.fit.specs.Fit.{longestDelay}
 use Rattle.election.specs.Rehearsals.{at20, run}
 use Rattle.election.specs.Schedule.{schedule}
 use Rattle.election.specs.Sound.{sound}
-use Rattle.election.specs.System.{place, unused, holding}
+use Rattle.election.specs.System.{unused, holding, withLink, places}
 use Rattle.election.specs.declared.Link.{Link}
 use Rattle.election.specs.declared.Message.{Message}
 use Rattle.election.specs.declared.System.{System}
@@ -15,20 +16,6 @@ use Rattle.election.specs.declared.System.{System}
 -- η 16, two stations, both up, tick 34; 2 has just started again. The next send chances are at ticks 49 and 52.
 abbrev pub base : System
 base = schedule (at20 ++ run 14 ++ (0x03 ∷ 0x02 ∷ 0x02 ∷ 0x02 ∷ [])) .system
-
--- the system with another link from p to q
-abbrev pub withLink : ℕ → ℕ → Link → System → System
-withLink p q l s =
-    record {
-      ready = s .ready;
-      n = s .n;
-      period = s .period;
-      tick = s .tick;
-      stations = s .stations;
-      sent = s .sent;
-      delays = s .delays;
-      links = set (s .links) (place p q) l;
-    }
 
 -- a message with a count of station 1, and a count of station 3, which is not there
 abbrev pub counting : ℕ → ℕ → ℕ → ℕ → Message
@@ -41,17 +28,17 @@ abbrev pub sounds : System → List System
 sounds s =
     s
     -- sent at the latest chance, with the longest delay and the largest count
-    ∷ withLink 1 2 (holding (counting 33 97 4095 0 ∷ [])) s
+    ∷ withLink 1 2 (holding (counting 33 (33 + longestDelay) 4095 0 ∷ [])) s
     -- two sendings a period apart
     ∷ withLink 1 2 (holding (message 17 35 ∷ message 33 35 ∷ [])) s
     ∷ []
 
 abbrev pub breaches : System → List System
 breaches s =
-    -- sent after the tick; due in it; due more than 64 ticks after the sending
+    -- sent after the tick; due in it; due more than the longest delay after the sending
     withLink 2 1 (holding (message 35 36 ∷ [])) s
     ∷ withLink 1 2 (holding (message 33 34 ∷ [])) s
-    ∷ withLink 1 2 (holding (message 33 98 ∷ [])) s
+    ∷ withLink 1 2 (holding (message 33 (34 + longestDelay) ∷ [])) s
     -- a count above 4095; a count beyond the stations
     ∷ withLink 1 2 (holding (counting 33 35 4096 0 ∷ [])) s
     ∷ withLink 1 2 (holding (counting 33 35 1 1 ∷ [])) s
@@ -61,7 +48,7 @@ breaches s =
     ∷ withLink 1 2 (holding (message 18 35 ∷ message 33 35 ∷ [])) s
     ∷ withLink 1 2 (holding (message 33 35 ∷ message 17 35 ∷ [])) s
     -- an unused place that is not zero; a link of a station to itself
-    ∷ withLink 1 2 (record { used = 0; messages = message 33 35 ∷ replicate 3 unused }) s
+    ∷ withLink 1 2 (record { used = 0; messages = message 33 35 ∷ replicate (places - 1) unused }) s
     ∷ withLink 1 1 (holding (message 33 35 ∷ [])) s
     ∷ []
 

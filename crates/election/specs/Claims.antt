@@ -23,8 +23,8 @@ abbrev pub KeepsSound : Type 0
 KeepsSound = (s : System) (bytes : List ℕ) → sound s ≡ true → sound (command s bytes .system) ≡ true
 
 -- a link never carries more than four messages
-abbrev pub FourPlaces : Type 0
-FourPlaces =
+abbrev pub LinkRoom : Type 0
+LinkRoom =
     (s : System) → sound s ≡ true → s .ready ≡ true → s .tick < lastTick
     → (p q : ℕ) → 1 ≤ p → p ≤ s .n → 1 ≤ q → q ≤ s .n → p ≢ q → length (underwayAfter s p q) ≤ places
 

@@ -2,7 +2,7 @@
 use mathlib.Core.List.{List, [], _∷_}
 use mathlib.Core.Bool.{Bool, cond, not, _&&_}
 use Prim.Native.Nat.{ℕ, _+_, _*_, _-_}
-use lib.ListN.{length, getD, set}
+use lib.ListN.{length, getD}
 use lib.Dec.{leb, ltb, eqb}
 use Rattle.lists.specs.First.{firstFailed}
 use Rattle.fit.specs.Fit.{within, longestDelay}
@@ -10,7 +10,7 @@ use Rattle.station.specs.Limits.{lastTick, mostStarts}
 use Rattle.station.specs.Rules.{started, crashed}
 use Rattle.station.specs.declared.Station.{Station}
 use Rattle.election.specs.Sound.{sound}
-use Rattle.election.specs.System.{station, place, holding, initial}
+use Rattle.election.specs.System.{station, initial, withStation, withDelay, withoutMessages}
 use Rattle.election.specs.Tick.{ticks}
 use Rattle.election.specs.declared.Answer.{Answer}
 use Rattle.election.specs.declared.Answer.the-variants.{Done, Refused}
@@ -77,46 +77,6 @@ ruling s bytes =
 -- 15 before all else
 unfoldable pub refusal : System → List ℕ → ℕ
 refusal s bytes = cond (sound s) (ruling s bytes) 15
-
--- the system with another station p, delay or link from p to q
-abbrev pub withStation : ℕ → Station → System → System
-withStation p x s =
-    record {
-      ready = s .ready;
-      n = s .n;
-      period = s .period;
-      tick = s .tick;
-      stations = set (s .stations) (p - 1) x;
-      sent = s .sent;
-      delays = s .delays;
-      links = s .links;
-    }
-
-abbrev pub withDelay : ℕ → ℕ → ℕ → System → System
-withDelay p q d s =
-    record {
-      ready = s .ready;
-      n = s .n;
-      period = s .period;
-      tick = s .tick;
-      stations = s .stations;
-      sent = s .sent;
-      delays = set (s .delays) (place p q) d;
-      links = s .links;
-    }
-
-abbrev pub withoutMessages : ℕ → ℕ → System → System
-withoutMessages p q s =
-    record {
-      ready = s .ready;
-      n = s .n;
-      period = s .period;
-      tick = s .tick;
-      stations = s .stations;
-      sent = s .sent;
-      delays = s .delays;
-      links = set (s .links) (place p q) (holding []);
-    }
 
 -- what an accepted command does
 unfoldable pub perform : Command → System → System

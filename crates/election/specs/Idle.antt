@@ -8,7 +8,7 @@ use Rattle.lists.specs.Test.{allTo}
 use Rattle.station.specs.Limits.{lastTick}
 use Rattle.station.specs.declared.Station.{Station}
 use Rattle.election.specs.Sound.{messageAt, sound}
-use Rattle.election.specs.System.{noLink, station, place, from, to, messages, holding, isLink}
+use Rattle.election.specs.System.{noLink, station, place, from, to, messages, holding, isLink, atTick}
 use Rattle.election.specs.Tick.{next, tick, ticks}
 use Rattle.election.specs.declared.Link.{Link}
 use Rattle.election.specs.declared.System.{System}
@@ -30,20 +30,6 @@ quietAt now s =
 -- nothing is due in the next tick
 abbrev pub idle : System → Bool
 idle s = quietAt (next s) s
-
--- the same system with its counter at another tick
-unfoldable pub atTick : ℕ → System → System
-atTick t s =
-    record {
-      ready = s .ready;
-      n = s .n;
-      period = s .period;
-      tick = t;
-      stations = s .stations;
-      sent = s .sent;
-      delays = s .delays;
-      links = s .links;
-    }
 
 -- the tables are full, and each link of the system holds its messages with unused places after them
 pub record Held (s : System) : Type 0 where

@@ -2,6 +2,7 @@
 pub mod Breaches
 pub mod Claims
 pub mod Commands
+pub mod Heads
 pub mod History
 pub mod Idle
 pub mod Listing

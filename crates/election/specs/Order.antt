@@ -7,8 +7,8 @@ use Prim.Native.Nat.{ℕ, zero, suc, _+_, _-_, _≤_}
 use lib.ListN.{length, getD, set}
 use lib.Dec.{eqb}
 use Rattle.lists.specs.Fold.{each}
-use Rattle.station.specs.Rules.{heard, expired, slotted, sends}
 use Rattle.station.specs.declared.Station.{Station}
+use Rattle.election.specs.Heads.{hearing, expiring, slotting, announces}
 use Rattle.election.specs.System.{noStation, underway}
 use Rattle.election.specs.Tick.{next, tick}
 use Rattle.election.specs.declared.Message.{Message}
@@ -42,18 +42,18 @@ unfoldable pub deliveries : System → List Delivery
 deliveries s = ascending (s .n) (λ p. ascending (s .n) (λ q. map (delivery p q) (dueNow (next s) (underway s q p))))
 
 -- (a) one delivery: the receiver hears it; one to a station that is down vanishes
-unfoldable pub delivered : ℕ → Delivery → List Station → List Station
-delivered now d xs =
+unfoldable pub delivered : System → Delivery → List Station → List Station
+delivered s d xs =
     let p : ℕ = d .receiver in
-    cond (stationOf xs p .up) (set xs (p - 1) (heard p (d .sender) (d .message .counts) now (stationOf xs p))) xs
+    cond (stationOf xs p .up) (set xs (p - 1) (hearing s p (d .sender) (d .message) (next s) (stationOf xs p))) xs
 
-unfoldable pub deliveredAll : ℕ → List Delivery → List Station → List Station
-deliveredAll now [] xs = xs
-deliveredAll now (d ∷ ds) xs = deliveredAll now ds (delivered now d xs)
+unfoldable pub deliveredAll : System → List Delivery → List Station → List Station
+deliveredAll s [] xs = xs
+deliveredAll s (d ∷ ds) xs = deliveredAll s ds (delivered s d xs)
 
 -- (b) the timer of station p ends if the station is up and it is due now
-unfoldable pub timerEnds : ℕ → ℕ → List Station → List Station
-timerEnds now p xs = cond (stationOf xs p .up && eqb (stationOf xs p .timer) now) (set xs (p - 1) (expired p (stationOf xs p))) xs
+unfoldable pub timerEnds : System → ℕ → List Station → List Station
+timerEnds s p xs = cond (stationOf xs p .up && eqb (stationOf xs p .timer) (next s)) (set xs (p - 1) (expiring s p (stationOf xs p))) xs
 
 -- the stations, and how many messages each has sent
 pub record Desk : Type 0 where
@@ -62,23 +62,23 @@ pub record Desk : Type 0 where
 
 -- (c) the send chance of station p if it is due now; an up station that trusts itself sends to the n - 1 others.
 -- In a sound system a station that is down has none: its slot is 0, and now is at least 1.
-unfoldable pub chance : ℕ → ℕ → ℕ → ℕ → Desk → Desk
-chance n period now p d =
+unfoldable pub chance : System → ℕ → Desk → Desk
+chance s p d =
     let x : Station = stationOf (d .stations) p in
     record {
-      stations = cond (eqb (x .slot) now) (set (d .stations) (p - 1) (slotted period now x)) (d .stations);
-      sent = cond (x .up && eqb (x .slot) now && sends p x) (set (d .sent) (p - 1) (getD (d .sent) (p - 1) 0 + (n - 1))) (d .sent);
+      stations = cond (eqb (x .slot) (next s)) (set (d .stations) (p - 1) (slotting s (next s) x)) (d .stations);
+      sent = cond (x .up && eqb (x .slot) (next s) && announces s p x) (set (d .sent) (p - 1) (getD (d .sent) (p - 1) 0 + (s .n - 1))) (d .sent);
     }
 
 -- after (a), after (b), and after (c)
 unfoldable pub afterDeliveries : System → List Station
-afterDeliveries s = deliveredAll (next s) (deliveries s) (s .stations)
+afterDeliveries s = deliveredAll s (deliveries s) (s .stations)
 
 unfoldable pub afterTimers : System → List Station
-afterTimers s = each (s .n) (λ k. timerEnds (next s) (k + 1)) (afterDeliveries s)
+afterTimers s = each (s .n) (λ k. timerEnds s (k + 1)) (afterDeliveries s)
 
 unfoldable pub afterChances : System → Desk
-afterChances s = each (s .n) (λ k. chance (s .n) (s .period) (next s) (k + 1)) (record { stations = afterTimers s; sent = s .sent })
+afterChances s = each (s .n) (λ k. chance s (k + 1)) (record { stations = afterTimers s; sent = s .sent })
 
 -- the paper's order leaves the stations that a tick has, in every system of full tables, sound or not
 abbrev pub PaperOrder : Type 0

@@ -20,7 +20,7 @@ emptyStation x = eqb (x .incarnation) 0 && eqb (x .stable) 0 && not (x .up) && c
 unfoldable pub emptyMessage : Message → Bool
 emptyMessage m = eqb (m .sent) 0 && eqb (m .due) 0 && countsIn 0 (m .counts)
 
--- a message was sent at or before the tick, is due after it and at most 64 after sending, with counts in range
+-- a message was sent at or before the tick, is due after it and at most the longest delay after sending, with counts in range
 unfoldable pub messageIn : ℕ → ℕ → Message → Bool
 messageIn n tick m = leb (m .sent) tick && ltb tick (m .due) && leb (m .due) (m .sent + longestDelay) && countsIn n (m .counts)
 
@@ -51,7 +51,7 @@ spaced period l k = cond (ltb (k + 1) (l .used)) (apart period (messageAt l k) (
 abbrev pub ordered : ℕ → Link → Bool
 ordered period l = allTo places (spaced period l)
 
--- a link between two stations, of at most four messages
+-- a link between two stations, of at most so many messages as it has places
 unfoldable pub linkIn : ℕ → ℕ → ℕ → Station → Link → Bool
 linkIn n period tick sender l = leb (l .used) places && placesIn n period tick sender l && ordered period l
 

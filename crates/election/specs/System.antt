@@ -2,9 +2,10 @@
 use mathlib.Core.List.{List, []}
 use mathlib.Core.Bool.{Bool, true, false, cond, not, _&&_}
 use Prim.Native.Nat.{ℕ, _+_, _-_, _*_, _/_, _%_}
-use lib.ListN.{length, getD, take, replicate}
+use lib.ListN.{length, getD, take, set, replicate}
 use lib.Dec.{ltb, eqb}
 use Rattle.lists.specs.Entries.{upTo, over}
+use Rattle.station.specs.Rules.{downWith}
 use Rattle.station.specs.declared.Station.{Station}
 use Rattle.election.specs.declared.Link.{Link}
 use Rattle.election.specs.declared.Message.{Message}
@@ -75,18 +76,7 @@ isLink n p q = ltb (p - 1) n && ltb (q - 1) n && not (eqb p q)
 
 -- a station that keeps a leader, down and never started
 abbrev pub unstarted : ℕ → Station
-unstarted leader =
-    record {
-      incarnation = 0;
-      stable = leader;
-      up = false;
-      leader = 0;
-      timer = 0;
-      slot = 0;
-      recovering = false;
-      recovered = replicate 8 0;
-      timeouts = replicate 8 0;
-    }
+unstarted leader = downWith 0 leader
 
 -- The fresh system is not set up and all its numbers are zero.
 unfoldable pub fresh : System
@@ -115,3 +105,47 @@ initial n period =
       delays = upTo 64 (λ k. cond (isLink n (from k) (to k)) 1 0);
       links = replicate 64 (holding []);
     }
+
+-- the system with another tick, and other stations, sent counts, delays and links; all else stays
+abbrev pub renewed : ℕ → List Station → List ℕ → List ℕ → List Link → System → System
+renewed tick stations sent delays links s =
+    record {
+      ready = s .ready;
+      n = s .n;
+      period = s .period;
+      tick = tick;
+      stations = stations;
+      sent = sent;
+      delays = delays;
+      links = links;
+    }
+
+-- .. with one of these alone
+unfoldable pub atTick : ℕ → System → System
+atTick t s = renewed t (s .stations) (s .sent) (s .delays) (s .links) s
+
+abbrev pub withStations : List Station → System → System
+withStations xs s = renewed (s .tick) xs (s .sent) (s .delays) (s .links) s
+
+abbrev pub withSent : List ℕ → System → System
+withSent counts s = renewed (s .tick) (s .stations) counts (s .delays) (s .links) s
+
+abbrev pub withDelays : List ℕ → System → System
+withDelays ds s = renewed (s .tick) (s .stations) (s .sent) ds (s .links) s
+
+abbrev pub withLinks : List Link → System → System
+withLinks ls s = renewed (s .tick) (s .stations) (s .sent) (s .delays) ls s
+
+-- .. with another station p, delay from p to q, or link from p to q
+abbrev pub withStation : ℕ → Station → System → System
+withStation p x s = withStations (set (s .stations) (p - 1) x) s
+
+abbrev pub withDelay : ℕ → ℕ → ℕ → System → System
+withDelay p q d s = withDelays (set (s .delays) (place p q) d) s
+
+abbrev pub withLink : ℕ → ℕ → Link → System → System
+withLink p q l s = withLinks (set (s .links) (place p q) l) s
+
+-- .. without the messages under way from p to q
+abbrev pub withoutMessages : ℕ → ℕ → System → System
+withoutMessages p q s = withLink p q (holding []) s

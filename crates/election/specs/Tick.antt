@@ -7,9 +7,10 @@ use lib.ListN.{getD}
 use lib.Dec.{ltb, eqb}
 use Rattle.lists.specs.Entries.{upTo}
 use Rattle.lists.specs.Fold.{each}
-use Rattle.station.specs.Rules.{heard, expired, slotted, sends}
 use Rattle.station.specs.declared.Station.{Station}
-use Rattle.election.specs.System.{noStation, noLink, station, from, to, delay, underway, isLink, holding}
+use Rattle.election.specs.Heads.{Hearing, hearing, expiring, slotting, announces}
+use Rattle.election.specs.System.{noStation, noLink, station, from, to, delay, underway, isLink, holding, renewed}
+use Rattle.election.specs.declared.Link.{Link}
 use Rattle.election.specs.declared.Message.{Message}
 use Rattle.election.specs.declared.System.{System}
 
@@ -18,29 +19,37 @@ abbrev pub next : System → ℕ
 next s = s .tick + 1
 
 -- (a) the messages of one sender that are due now, oldest first
-unfoldable pub heardLink : ℕ → ℕ → ℕ → List Message → Station → Station
-heardLink me q now [] x = x
-heardLink me q now (m ∷ ms) x = heardLink me q now ms (cond (eqb (m .due) now) (heard me q (m .counts) now x) x)
+unfoldable pub heardLink : Hearing → ℕ → ℕ → ℕ → List Message → Station → Station
+heardLink hear me q now [] x = x
+heardLink hear me q now (m ∷ ms) x = heardLink hear me q now ms (cond (eqb (m .due) now) (hear me q m now x) x)
 
 -- (a) from every sender, ascending
-unfoldable pub heardAll : ℕ → ℕ → ℕ → (ℕ → List Message) → Station → Station
-heardAll n me now inbox x = each n (λ k. heardLink me (k + 1) now (inbox (k + 1))) x
+unfoldable pub heardAll : Hearing → ℕ → ℕ → ℕ → (ℕ → List Message) → Station → Station
+heardAll hear n me now inbox x = each n (λ k. heardLink hear me (k + 1) now (inbox (k + 1))) x
 
 -- (b) a timer due now ends
-unfoldable pub expiredNow : ℕ → ℕ → Station → Station
-expiredNow me now x = cond (eqb (x .timer) now) (expired me x) x
+unfoldable pub expiredNow : (Station → Station) → ℕ → Station → Station
+expiredNow expire now x = cond (eqb (x .timer) now) (expire x) x
 
 -- (c) a send chance due now
-unfoldable pub slottedNow : ℕ → ℕ → Station → Station
-slottedNow period now x = cond (eqb (x .slot) now) (slotted period now x) x
+unfoldable pub slottedNow : (Station → Station) → ℕ → Station → Station
+slottedNow slot now x = cond (eqb (x .slot) now) (slot x) x
+
+-- what station p hears in (a)
+abbrev pub heardBy : System → ℕ → Station → Station
+heardBy s p x = heardAll (hearing s) (s .n) p (next s) (λ q. underway s q p) x
 
 -- station p after (a) and (b); a message to a station that is down vanishes
 unfoldable pub settled : System → ℕ → Station
-settled s p = cond (station s p .up) (expiredNow p (next s) (heardAll (s .n) p (next s) (λ q. underway s q p) (station s p))) (station s p)
+settled s p = cond (station s p .up) (expiredNow (expiring s p) (next s) (heardBy s p (station s p))) (station s p)
 
 -- station p sends LEADER in (c)
 unfoldable pub sending : System → ℕ → Bool
-sending s p = settled s p .up && eqb (settled s p .slot) (next s) && sends p (settled s p)
+sending s p = settled s p .up && eqb (settled s p .slot) (next s) && announces s p (settled s p)
+
+-- station p after (c)
+abbrev pub stationNext : System → ℕ → Station
+stationNext s p = slottedNow (slotting s (next s)) (next s) (settled s p)
 
 -- the messages that are not due now
 unfoldable pub later : ℕ → List Message → List Message
@@ -56,18 +65,18 @@ sent s p q =
 abbrev pub underwayAfter : System → ℕ → ℕ → List Message
 underwayAfter s p q = later (next s) (underway s p q) ++ sent s p q
 
+-- what stands after the tick at place k of the stations, of the sent counts and of the links
+abbrev pub seatNext : System → ℕ → Station
+seatNext s k = cond (ltb k (s .n)) (stationNext s (k + 1)) (getD (s .stations) k noStation)
+
+abbrev pub sentNext : System → ℕ → ℕ
+sentNext s k = cond (ltb k (s .n) && sending s (k + 1)) (getD (s .sent) k 0 + (s .n - 1)) (getD (s .sent) k 0)
+
+abbrev pub linkNext : System → ℕ → Link
+linkNext s k = cond (isLink (s .n) (from k) (to k)) (holding (underwayAfter s (from k) (to k))) (getD (s .links) k noLink)
+
 unfoldable pub tick : System → System
-tick s =
-    record {
-      ready = s .ready;
-      n = s .n;
-      period = s .period;
-      tick = next s;
-      stations = upTo 8 (λ k. cond (ltb k (s .n)) (slottedNow (s .period) (next s) (settled s (k + 1))) (getD (s .stations) k noStation));
-      sent = upTo 8 (λ k. cond (ltb k (s .n) && sending s (k + 1)) (getD (s .sent) k 0 + (s .n - 1)) (getD (s .sent) k 0));
-      delays = s .delays;
-      links = upTo 64 (λ k. cond (isLink (s .n) (from k) (to k)) (holding (underwayAfter s (from k) (to k))) (getD (s .links) k noLink));
-    }
+tick s = renewed (next s) (upTo 8 (seatNext s)) (upTo 8 (sentNext s)) (s .delays) (upTo 64 (linkNext s)) s
 
 -- a run of t ticks
 unfoldable pub ticks : ℕ → System → System

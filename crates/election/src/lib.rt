@@ -9,11 +9,14 @@ pub struct Message {
     pub counts: [u16; 8],
 }
 
+// How many messages a link has places for.
+pub const PLACES: usize = 4;
+
 // The messages under way from one station to another, oldest sending first: how many there are, and
 // their places, the used ones first.
 pub struct Link {
     pub used: u8,
-    pub messages: [Message; 4],
+    pub messages: [Message; PLACES],
 }
 
 // All stations and links (document 01's table). Station p stands at p - 1, the link from p to q at

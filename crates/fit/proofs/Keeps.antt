@@ -13,14 +13,14 @@ use borrow.Author.Tests.{lt-ltb, eq-eqb, ne-eqb}
 use Rattle.lists.proofs.Bools.{cond-elim}
 use Rattle.lists.proofs.Count.{count-one}
 use Rattle.station.specs.Order.{entry}
-use Rattle.station.specs.Rules.{other, started, crashed, joined, knowing, trusting, heard, expired, slotted}
+use Rattle.station.specs.Rules.{waiting, startedWith, other, started, crashed, joined, knowing, trusting, heard, expired, slotted}
 use Rattle.fit.specs.Fit.{flight, fit, timeoutsAt, fitStart, fitCrash, fitExpire, fitMessage, fitHear, fitSlot}
 use Rattle.station.specs.Limits.{mostStarts, longest}
 use Rattle.station.specs.declared.Station.{Station}
 use Rattle.fit.proofs.Between.{start-of, crash-of}
 use Rattle.station.proofs.Candidates.{keyOf}
 use Rattle.fit.proofs.Down.{down-fits}
-use Rattle.station.proofs.Elimination.{startedWith, started-elim, crashed-elim, heard-elim, expiredWith, expired-elim, slotted-elim}
+use Rattle.station.proofs.Elimination.{started-elim, crashed-elim, heard-elim, expired-elim, slotted-elim}
 use Rattle.fit.proofs.Handed.{JustSet, InTick, Before, Hearing, Expiring, Unended, Ended, Slotting, message-of, hearing-of, of-hearing, expiring-of, of-expiring, slotting-of, of-slotting}
 use Rattle.fit.proofs.Tests.{Ranges, Kept, Counts, Timeouts, Alive, Timer, Standing, fit-ranges, fit-of, of-fit}
 use Rattle.station.proofs.Vectors.{inside, other-of, joined-at}
@@ -255,12 +255,12 @@ module _ (me n period tick : ℕ) (s : Station) (x : Expiring me n period tick s
       off : (k : ℕ) → k < 8 → other me n k ≡ false → k ≡ s .leader - 1 → ⊥
       off k l o i = false≢true (sym o ∙ ap (λ z. other me n z) i ∙ other-of me n (s .leader) (x .stands .living .leader-low) (x .stands .living .leader-high) leader-other)
 
-  living-with : (t : List ℕ) → Alive me n (expiredWith me t s)
+  living-with : (t : List ℕ) → Alive me n (waiting me 0 t s)
   living-with t =
       let l : Alive me n s = x .stands .living in
       record { up = l .up; count = l .count; leader-low = values .me-low; leader-high = values .me-high; counts = l .counts; own = l .own }
 
-  stopped : (t : List ℕ) (now : ℕ) → Timer me now (expiredWith me t s)
+  stopped : (t : List ℕ) (now : ℕ) → Timer me now (waiting me 0 t s)
   stopped t now = record { off = λ e. refl; on = λ ne. absurd (ne refl) }
 
   in-timeouts : s .leader - 1 < length (s .timeouts)
@@ -278,7 +278,7 @@ module _ (me n period tick : ℕ) (s : Station) (x : Expiring me n period tick s
   expired-fits ns =
       expired-elim (λ y. fit me n period tick y ≡ true) me s in-timeouts
       (λ t size e same.
-      of-fit me n period tick (expiredWith me t s) values (x .kept)
+      of-fit me n period tick (waiting me 0 t s) values (x .kept)
       (record {
         living = living-with t;
         timeouts = raised (longest tick) t (omega arith) (omega (arith, timeout-was .1, x .values .tick-low)) e same;
@@ -291,10 +291,10 @@ module _ (me n period tick : ℕ) (s : Station) (x : Expiring me n period tick s
   expired-slots es =
       expired-elim (λ y. fitSlot me n period tick y ≡ true) me s in-timeouts
       (λ t size e same.
-      of-slotting me n period tick (expiredWith me t s)
+      of-slotting me n period tick (waiting me 0 t s)
       (record { values = x .values; kept = x .kept; living = living-with t; now = es; timer = either-way t e same (decLe (entry (s .timeouts) (s .leader) + 1) (longest (tick - 1))) }))
     where
-      either-way : (t : List ℕ) → entry t (s .leader) ≡ entry (s .timeouts) (s .leader) + 1 → ((k : ℕ) → k ≢ s .leader - 1 → getD t k 0 ≡ getD (s .timeouts) k 0) → Dec (entry (s .timeouts) (s .leader) + 1 ≤ longest (tick - 1)) → Unended me n period tick (expiredWith me t s) ⊎ Ended me n period tick (expiredWith me t s)
+      either-way : (t : List ℕ) → entry t (s .leader) ≡ entry (s .timeouts) (s .leader) + 1 → ((k : ℕ) → k ≢ s .leader - 1 → getD t k 0 ≡ getD (s .timeouts) k 0) → Dec (entry (s .timeouts) (s .leader) + 1 ≤ longest (tick - 1)) → Unended me n period tick (waiting me 0 t s) ⊎ Ended me n period tick (waiting me 0 t s)
       either-way t e same (yes room) =
           inl (record { timeouts = raised (longest (tick - 1)) t (omega arith) room e same; timer = inl (stopped t (tick - 1), (λ z. omega (arith, x .values .tick-low))) })
       either-way t e same (no full) =

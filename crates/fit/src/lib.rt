@@ -13,6 +13,12 @@ use station::rules::other;
 use station::rules::precedes;
 use station::rules::timeout_of;
 
+// The longest delay of a link, and how far two messages of one sender can lie apart and be due in one tick.
+pub const LONGEST_DELAY: u8 = 64;
+
+const FLIGHT: u32 = LONGEST_DELAY as u32 - 1;
+
+// The same number, as a u64.
 pub fn wide(x: u32) -> u64
     ensures { λ r. ⌜ r ≡ x ⌝ }
 {
@@ -231,7 +237,7 @@ fn fit_message(me: u8, n: u8, q: u8, v: [u16; 8]) -> bool
 fn heard_before(period: u32, tick: u32, q: u8, s: Station) -> bool
     ensures { λ r. ⌜ r ≡ heardBefore period tick q s ⌝ }
 {
-    let apart = least(previous(tick), 63);
+    let apart = least(previous(tick), FLIGHT);
     (s.leader < q) | ((s.leader == q) & (period <= apart))
 }
 

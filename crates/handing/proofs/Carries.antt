@@ -10,7 +10,7 @@ use lib.ListN.{length}
 use lib.Dec.{eqb}
 use borrow.Author.Tests.{eq-eqb, ne-eqb}
 use Rattle.station.specs.declared.Station.{Station}
-use Rattle.election.specs.System.{isLink}
+use Rattle.election.specs.System.{isLink, places}
 use Rattle.election.specs.declared.Message.{Message}
 use Rattle.election.proofs.Links.{Posted}
 use Rattle.election.proofs.Spaced.{Spaced, none, more}
@@ -21,7 +21,7 @@ Adrift n period tick m = (sender : Station) → sender .up ≡ false → Posted 
 
 -- up to four such messages on a link, sent at least a period apart
 pub record Carries (n period tick : ℕ) (ms : List Message) : Type 0 where
-  pub few : length ms ≤ 4
+  pub few : length ms ≤ places
   pub spaced : (sender : Station) → sender .up ≡ false → Spaced (Posted n period tick sender) period 0 ms
 
 module _ (n period tick : ℕ) where

@@ -13,7 +13,7 @@ use borrow.Author.Tests.{ltb-true, eqb-true, eqb-false, not-true}
 use Rattle.lists.proofs.Bools.{both}
 use Rattle.lists.proofs.Count.{Once, one-counted}
 use Rattle.station.specs.Order.{entry}
-use Rattle.station.specs.Rules.{other, joined, trusting, heard, expired}
+use Rattle.station.specs.Rules.{waiting, other, joined, trusting, heard, expired}
 use Rattle.fit.specs.Fit.{fit, timeoutsAt}
 use Rattle.station.specs.Limits.{longest}
 use Rattle.station.specs.declared.Station.{Station}
@@ -57,18 +57,7 @@ timeouts-once high t e = one-counted 8 (λ k. eqb (getD t k 0) high) e
 
 -- the station that trusted the station at place j, whose timer is due now and whose timeout is t
 abbrev pub unexpired : ℕ → ℕ → ℕ → Station → Station
-unexpired j t now x =
-    record {
-      incarnation = x .incarnation;
-      stable = x .stable;
-      up = x .up;
-      leader = j + 1;
-      timer = now;
-      slot = x .slot;
-      recovering = x .recovering;
-      recovered = x .recovered;
-      timeouts = set (x .timeouts) j t;
-    }
+unexpired j t now x = waiting (j + 1) now (set (x .timeouts) j t) x
 
 -- the timer ended in this tick: before, the station trusted the one whose timeout is now at the highest
 module _ (me n period now : ℕ) (x : Station) (v : InTick me n period now) (l : Alive me n x) (due : x .slot ≡ now) (u : Ended me n period now x) (size : length (x .timeouts) ≡ 8) where
@@ -166,15 +155,4 @@ module _ (me n period now : ℕ) (x : Station) (v : InTick me n period now) (l :
       expired-elim (λ y. y ≡ x) me earlier (omega (arith, risen-below, length-earlier))
       (λ t s e same.
       let w : t ≡ x .timeouts = restored t s e same in
-      λ i.
-      record {
-        incarnation = x .incarnation;
-        stable = x .stable;
-        up = x .up;
-        leader = sym (u .self) i;
-        timer = sym (u .stopped) i;
-        slot = x .slot;
-        recovering = x .recovering;
-        recovered = x .recovered;
-        timeouts = w i;
-      })
+      λ i. waiting (sym (u .self) i) (sym (u .stopped) i) (w i) x)

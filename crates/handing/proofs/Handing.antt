@@ -9,15 +9,16 @@ use native.Mathlib.Omega.{arith}
 use lib.ListN.{replicate}
 use Rattle.lists.specs.Fold.{each}
 use Rattle.station.specs.Order.{entry}
-use Rattle.fit.specs.Fit.{flight, fit, fitStart, fitCrash, fitHear, fitExpire, fitSlot}
+use Rattle.fit.specs.Fit.{flight, fit, fitStart, fitCrash, fitHear, fitExpire, fitSlot, longestDelay}
 use Rattle.station.specs.Limits.{longest}
-use Rattle.station.specs.Rules.{trusting, heard}
+use Rattle.station.specs.Rules.{trusting, heard, expired}
 use Rattle.station.specs.declared.Station.{Station}
 use Rattle.fit.proofs.Between.{start-of, crash-of}
 use Rattle.fit.proofs.Handed.{JustSet, InTick, Before, Hearing, hearing-of, Expiring, expiring-of, Unended, Ended, Slotting, slotting-of}
 use Rattle.fit.proofs.Keeps.{leader-timeout, set-other}
 use Rattle.fit.proofs.Tests.{Counts, Timer, Standing, of-counts, of-fit}
 use Rattle.handing.specs.Handed.{Finds, Hears, Expires, Slots, Eight}
+use Rattle.election.specs.Heads.{byCounts}
 use Rattle.election.specs.System.{station, underway, isLink}
 use Rattle.election.specs.Tick.{heardLink, heardAll, expiredNow, settled}
 use Rattle.election.specs.declared.Message.{Message}
@@ -40,7 +41,7 @@ crash-handed me n period tick x e = let (f, u) = crash-of me n period tick x e i
 abbrev dueNow : ℕ → ℕ → List ℕ → Message
 dueNow now sent v = record { sent = sent; due = now; counts = v }
 
-due-now : (n period now sent : ℕ) (v : List ℕ) → 1 ≤ now → sent ≤ now - 1 → now ≤ sent + 64 → Counts n v → Adrift n period (now - 1) (dueNow now sent v)
+due-now : (n period now sent : ℕ) (v : List ℕ) → 1 ≤ now → sent ≤ now - 1 → now ≤ sent + longestDelay → Counts n v → Adrift n period (now - 1) (dueNow now sent v)
 due-now n period now sent v low began soon c x d =
     record { sent-by = began; due-after = omega arith; due-by = soon; counts = of-counts n v c; before = λ u. absurd (true≢false (sym u ∙ d)) }
 
@@ -60,20 +61,20 @@ module _ (me n period now : ℕ) (v : InTick me n period now) where
   link-here q low high ne = is-link n q me (record { low = low; high = high }) (record { low = v .given .me-low; high = v .given .me-high }) ne
 
   -- nothing comes
-  quiet : (x : Station) → heardAll n me now (λ q. underway (around me n period (now - 1) x noMail) q me) (station (around me n period (now - 1) x noMail) me) ≡ x
+  quiet : (x : Station) → heardAll byCounts n me now (λ q. underway (around me n period (now - 1) x noMail) q me) (station (around me n period (now - 1) x noMail) me) ≡ x
   quiet x =
-      heardAll-each n me now (λ q. underway (around me n period (now - 1) x noMail) q me) (station (around me n period (now - 1) x noMail) me)
-      ∙ hears-nobody me n period (now - 1) now x noMail hm (λ p. omega arith) n (v .given .n-high) (station (around me n period (now - 1) x noMail) me) (λ p h. refl)
+      heardAll-each byCounts n me now (λ q. underway (around me n period (now - 1) x noMail) q me) (station (around me n period (now - 1) x noMail) me)
+      ∙ hears-nobody byCounts me n period (now - 1) now x noMail hm (λ p. omega arith) n (v .given .n-high) (station (around me n period (now - 1) x noMail) me) (λ p h. refl)
       ∙ around-station me n period (now - 1) x noMail hm
 
   -- after (a) and (b)
-  settled-now : (x y : Station) (mail : ℕ → List Message) → x .up ≡ true → heardAll n me now (λ q. underway (around me n period (now - 1) x mail) q me) (station (around me n period (now - 1) x mail) me) ≡ y → settled (around me n period (now - 1) x mail) me ≡ expiredNow me now y
+  settled-now : (x y : Station) (mail : ℕ → List Message) → x .up ≡ true → heardAll byCounts n me now (λ q. underway (around me n period (now - 1) x mail) q me) (station (around me n period (now - 1) x mail) me) ≡ y → settled (around me n period (now - 1) x mail) me ≡ expiredNow (expired me) now y
   settled-now x y mail u h =
       let e : now - 1 + 1 ≡ now = omega (arith, v .tick-low) in
       let s : System = around me n period (now - 1) x mail in
       settled-up s me (ap (λ z. z .up) (around-station me n period (now - 1) x mail hm) ∙ u)
-      ∙ ap (λ t. expiredNow me t (heardAll n me t (λ q. underway s q me) (station s me))) e
-      ∙ ap (expiredNow me now) h
+      ∙ ap (λ t. expiredNow (expired me) t (heardAll byCounts n me t (λ q. underway s q me) (station s me))) e
+      ∙ ap (expiredNow (expired me) now) h
 
 -- the leader's mail may be under way
 leader-mail : (me n period now : ℕ) (x : Station) → InTick me n period now → Standing me n period (now - 1) x → JustSet me now x → Inbox me n period (now - 1) (leaderMail now x)
@@ -106,10 +107,10 @@ module _ (me n period now q : ℕ) (v : List ℕ) (x : Station) (h : Hearing me 
 
   -- after the senders below q, in the system around y
   abbrev heardLower : Station → (ℕ → List Message) → Station → Station
-  heardLower y mail z = each (q - 1) (λ k. heardLink me (k + 1) now (underway (around me n period (now - 1) y mail) (k + 1) me)) z
+  heardLower y mail z = each (q - 1) (λ k. heardLink byCounts me (k + 1) now (underway (around me n period (now - 1) y mail) (k + 1) me)) z
 
   -- handed by the system around an earlier station
-  handed-by : (y : Station) (mail : ℕ → List Message) (older : List Message) → Inbox me n period (now - 1) mail → fit me n period (now - 1) y ≡ true → y .up ≡ true → mail q ≡ older ++ (youngest ∷ []) → heardLink me q now older (heardLower y mail y) ≡ x → Hears me n period now q v x
+  handed-by : (y : Station) (mail : ℕ → List Message) (older : List Message) → Inbox me n period (now - 1) mail → fit me n period (now - 1) y ≡ true → y .up ≡ true → mail q ≡ older ++ (youngest ∷ []) → heardLink byCounts me q now older (heardLower y mail y) ≡ x → Hears me n period now q v x
   handed-by y mail older m f u e s =
       record {
         system = around me n period (now - 1) y mail;
@@ -123,7 +124,7 @@ module _ (me n period now q : ℕ) (v : List ℕ) (x : Station) (h : Hearing me 
         is-mail = around-underway me n period (now - 1) y mail q (record { low = h .message .low; high = omega (arith, h .message .high, h .values .given .n-high) }) (hm me n period now (h .values)) (m .carried q .few) ∙ e;
         is-due = refl;
         is-counts = refl;
-        is-station = ap (λ z. heardLink me q now older (heardLower y mail z)) (around-station me n period (now - 1) y mail (hm me n period now (h .values))) ∙ s;
+        is-station = ap (λ z. heardLink byCounts me q now older (heardLower y mail z)) (around-station me n period (now - 1) y mail (hm me n period now (h .values))) ∙ s;
       }
 
   -- where nothing was heard before
@@ -135,8 +136,8 @@ module _ (me n period now q : ℕ) (v : List ℕ) (x : Station) (h : Hearing me 
       (of-fit me n period (now - 1) x (h .values .given) (h .kept) (h .stands) t)
       (h .stands .living .up)
       (also-own q (youngest ∷ []) noMail)
-      (heard-none me q now [] (heardLower x mail x) refl
-      ∙ hears-nobody me n period (now - 1) now x mail (hm me n period now (h .values)) (λ p. m .carried p .few) (q - 1) (omega (arith, h .message .high, h .values .given .n-high)) x (λ p i. also-others q (youngest ∷ []) noMail p (λ e. omega (arith, h .message .low))))
+      (heard-none byCounts me q now [] (heardLower x mail x) refl
+      ∙ hears-nobody byCounts me n period (now - 1) now x mail (hm me n period now (h .values)) (λ p. m .carried p .few) (q - 1) (omega (arith, h .message .high, h .values .given .n-high)) x (λ p i. also-others q (youngest ∷ []) noMail p (λ e. omega (arith, h .message .low))))
 
   module _ (l : Eight x) (j : JustSet me now x) where
     abbrev earlierFits : fit me n period (now - 1) (trusting me 0 x) ≡ true
@@ -152,11 +153,11 @@ module _ (me n period now q : ℕ) (v : List ℕ) (x : Station) (h : Hearing me 
         let m : Inbox me n period (now - 1) mail = also-mail me n period (now - 1) q (youngest ∷ []) (leaderMail now x) from-q (carries-one n period (now - 1) youngest youngest-due) w in
         handed-by y mail [] m earlierFits (h .stands .living .up)
         (also-own q (youngest ∷ []) (leaderMail now x))
-        (heard-none me q now [] (heardLower y mail y) refl
-        ∙ hears-only me n period (now - 1) now y mail (hm me n period now (h .values)) (λ p. m .carried p .few) (q - 1) (omega (arith, h .message .high, h .values .given .n-high)) y (x .leader) (h .stands .living .leader-low) (omega arith)
+        (heard-none byCounts me q now [] (heardLower y mail y) refl
+        ∙ hears-only byCounts me n period (now - 1) now y mail (hm me n period now (h .values)) (λ p. m .carried p .few) (q - 1) (omega (arith, h .message .high, h .values .given .n-high)) y (x .leader) (h .stands .living .leader-low) (omega arith)
         (λ p i ne. also-others q (youngest ∷ []) (leaderMail now x) p (λ e. omega (arith, h .message .low)) ∙ also-others (x .leader) (o ∷ []) noMail p ne)
-        ∙ ap (λ ms. heardLink me (x .leader) now ms y) (also-others q (youngest ∷ []) (leaderMail now x) (x .leader) (λ e. omega arith) ∙ also-own (x .leader) (o ∷ []) noMail)
-        ∙ hears-one me (x .leader) now y o refl
+        ∙ ap (λ ms. heardLink byCounts me (x .leader) now ms y) (also-others q (youngest ∷ []) (leaderMail now x) (x .leader) (λ e. omega arith) ∙ also-own (x .leader) (o ∷ []) noMail)
+        ∙ hears-one byCounts me (x .leader) now y o refl
         ∙ leader-heard me n period now x (h .values .given) (h .stands) j (l .counts))
 
     -- where it is q, with an older message
@@ -169,9 +170,9 @@ module _ (me n period now q : ℕ) (v : List ℕ) (x : Station) (h : Hearing me 
         let m : Inbox me n period (now - 1) (only q ms) = also-mail me n period (now - 1) q ms noMail from-q (carries-two n period (now - 1) o youngest u youngest-due (omega arith)) (no-mail me n period (now - 1)) in
         handed-by y (only q ms) (o ∷ []) m earlierFits (h .stands .living .up)
         (also-own q ms noMail)
-        (ap (heardLink me q now (o ∷ []))
-        (hears-nobody me n period (now - 1) now y (only q ms) (hm me n period now (h .values)) (λ p. m .carried p .few) (q - 1) (omega (arith, h .message .high, h .values .given .n-high)) y (λ p i. also-others q ms noMail p (λ e. omega (arith, h .message .low))))
-        ∙ hears-one me q now y o refl
+        (ap (heardLink byCounts me q now (o ∷ []))
+        (hears-nobody byCounts me n period (now - 1) now y (only q ms) (hm me n period now (h .values)) (λ p. m .carried p .few) (q - 1) (omega (arith, h .message .high, h .values .given .n-high)) y (λ p i. also-others q ms noMail p (λ e. omega (arith, h .message .low))))
+        ∙ hears-one byCounts me q now y o refl
         ∙ ap (λ p. heard me p (replicate 8 0) now y) (sym e)
         ∙ leader-heard me n period now x (h .values .given) (h .stands) j (l .counts))
 
@@ -204,7 +205,7 @@ module _ (me n period now : ℕ) (x : Station) (d : Slotting me n period now x) 
         slots-by x noMail (no-mail me n period (now - 1))
         (of-fit me n period (now - 1) x (d .values .given) (d .kept) stands t)
         (d .living .up)
-        (settled-now me n period now (d .values) x x noMail (d .living .up) (quiet me n period now (d .values) x) ∙ timer-runs me now x ne)
+        (settled-now me n period now (d .values) x x noMail (d .living .up) (quiet me n period now (d .values) x) ∙ timer-runs (expired me) now x ne)
 
     -- the leader was heard
     slots-heard : Eight x → JustSet me now x → Slots me n period now x
@@ -218,13 +219,13 @@ module _ (me n period now : ℕ) (x : Station) (d : Slotting me n period now x) 
         (earlier-fits me n period now x (d .values .given) stands (d .kept))
         (d .living .up)
         (settled-now me n period now (d .values) y x (leaderMail now x) (d .living .up)
-        (heardAll-each n me now (λ q. underway s q me) (station s me)
-        ∙ hears-only me n period (now - 1) now y (leaderMail now x) (hm me n period now (d .values)) (λ p. m .carried p .few) n (d .values .given .n-high) (station s me) (x .leader) (d .living .leader-low) (d .living .leader-high) (λ p i ne. also-others (x .leader) (o ∷ []) noMail p ne)
-        ∙ ap (λ ms. heardLink me (x .leader) now ms (station s me)) (also-own (x .leader) (o ∷ []) noMail)
-        ∙ ap (heardLink me (x .leader) now (o ∷ [])) (around-station me n period (now - 1) y (leaderMail now x) (hm me n period now (d .values)))
-        ∙ hears-one me (x .leader) now y o refl
+        (heardAll-each byCounts n me now (λ q. underway s q me) (station s me)
+        ∙ hears-only byCounts me n period (now - 1) now y (leaderMail now x) (hm me n period now (d .values)) (λ p. m .carried p .few) n (d .values .given .n-high) (station s me) (x .leader) (d .living .leader-low) (d .living .leader-high) (λ p i ne. also-others (x .leader) (o ∷ []) noMail p ne)
+        ∙ ap (λ ms. heardLink byCounts me (x .leader) now ms (station s me)) (also-own (x .leader) (o ∷ []) noMail)
+        ∙ ap (heardLink byCounts me (x .leader) now (o ∷ [])) (around-station me n period (now - 1) y (leaderMail now x) (hm me n period now (d .values)))
+        ∙ hears-one byCounts me (x .leader) now y o refl
         ∙ leader-heard me n period now x (d .values .given) stands j (l .counts))
-        ∙ timer-runs me now x (λ e. omega (arith, j .ends, t .0, d .values .given .period-low)))
+        ∙ timer-runs (expired me) now x (λ e. omega (arith, j .ends, t .0, d .values .given .period-low)))
 
   -- the timer ended
   slots-ended : Eight x → Ended me n period now x → Slots me n period now x
@@ -234,7 +235,7 @@ module _ (me n period now : ℕ) (x : Station) (d : Slotting me n period now x) 
       (unexpired-fits me n period now x (d .values) (d .living) (d .now) u (l .timeouts) (d .kept))
       (d .living .up)
       (settled-now me n period now (d .values) y y noMail (d .living .up) (quiet me n period now (d .values) y)
-      ∙ timer-ends me now y refl
+      ∙ timer-ends (expired me) now y refl
       ∙ leader-expired me n period now x (d .values) (d .living) (d .now) u (l .timeouts))
 
 pub slot-handed : (me n period now : ℕ) (x : Station) → Eight x → fitSlot me n period now x ≡ true → Slots me n period now x

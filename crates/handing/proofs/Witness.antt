@@ -11,14 +11,14 @@ use lib.Dec.{ltb, eqb}
 use borrow.Author.Tests.{lt-ltb, le-ltb, eq-eqb, ne-eqb}
 use Rattle.lists.specs.Entries.{upTo}
 use Rattle.lists.proofs.Entries.{getD-upTo}
-use Rattle.fit.specs.Fit.{fit}
+use Rattle.fit.specs.Fit.{fit, longestDelay}
 use Rattle.station.specs.declared.Station.{Station}
 use Rattle.fit.proofs.Down.{down-fits}
 use Rattle.fit.proofs.Tests.{Ranges, fit-ranges}
 use Rattle.station.proofs.Vectors.{zeros-at}
 use Rattle.handing.specs.Handed.{Holds, Finds, Runs}
 use Rattle.election.specs.Sound.{emptyPlace, emptySeat, sound}
-use Rattle.election.specs.System.{noStation, noLink, station, place, from, to, delay, messages, holding, underway, isLink, unstarted}
+use Rattle.election.specs.System.{noStation, noLink, station, place, from, to, delay, messages, holding, underway, isLink, unstarted, places}
 use Rattle.election.specs.declared.Message.{Message}
 use Rattle.election.specs.declared.System.{System}
 use Rattle.handing.proofs.Carries.{Inbox, noMail, no-mail}
@@ -60,7 +60,7 @@ module _ (me n period tick : ℕ) (x : Station) (mail : ℕ → List Message) wh
   around-down : (p : ℕ) → In 8 p → p ≢ me → station (around me n period tick x mail) p .up ≡ false
   around-down p h ne = ap (λ y. y .up) (around-at p h) ∙ rw (ne-eqb p me ne)
 
-  pub around-underway : (p : ℕ) → In 8 p → In 8 me → length (mail p) ≤ 4 → underway (around me n period tick x mail) p me ≡ mail p
+  pub around-underway : (p : ℕ) → In 8 p → In 8 me → length (mail p) ≤ places → underway (around me n period tick x mail) p me ≡ mail p
   around-underway p hp hm few =
       ap messages (at-link (λ a b. holding (mailed me mail a b)) p me noLink hp hm ∙ rw (eq-eqb me me refl)) ∙ messages-holding (mail p) few
 
@@ -94,7 +94,7 @@ module _ (me n period tick : ℕ) (x : Station) (mail : ℕ → List Message) (f
   made-seat k l h =
       rw (getD-upTo 8 (λ k. stood me n x (k + 1)) k noStation h, ne-eqb (k + 1) me (λ e. omega (arith, given .me-high)), le-ltb (k + 1 - 1) n (omega arith), zeros-at k) empty-seat
 
-  made-short : (p q : ℕ) → In n p → In n q → p ≢ q → delay made p q ≤ 64
+  made-short : (p q : ℕ) → In n p → In n q → p ≢ q → delay made p q ≤ longestDelay
   made-short p q hp hq ne = omega (arith, getD-replicate {A = ℕ} 64 (place p q) 0 0 (place-in p q (wide p hp) (wide q hq)))
 
   module _ (m : Inbox me n period tick mail) where

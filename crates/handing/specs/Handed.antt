@@ -9,6 +9,7 @@ use Rattle.lists.specs.Fold.{each}
 use Rattle.fit.specs.Fit.{fitStart, fitCrash, fitHear, fitExpire, fitSlot}
 use Rattle.station.specs.Limits.{lastTick}
 use Rattle.station.specs.declared.Station.{Station}
+use Rattle.election.specs.Heads.{hearing}
 use Rattle.election.specs.Sound.{sound}
 use Rattle.election.specs.System.{station, underway}
 use Rattle.election.specs.Tick.{heardLink, heardAll, settled}
@@ -51,13 +52,13 @@ pub record Hears (me n period now q : ℕ) (v : List ℕ) (x : Station) : Type 0
   pub is-mail : underway system q me ≡ older ++ (message ∷ younger)
   pub is-due : message .due ≡ now
   pub is-counts : message .counts ≡ v
-  pub is-station : heardLink me q now older (each (q - 1) (λ k. heardLink me (k + 1) now (underway system (k + 1) me)) (station system me)) ≡ x
+  pub is-station : heardLink (hearing system) me q now older (each (q - 1) (λ k. heardLink (hearing system) me (k + 1) now (underway system (k + 1) me)) (station system me)) ≡ x
 
 -- in (b) station me is x, and its timer is due
 pub record Expires (me n period now : ℕ) (x : Station) : Type 0 where
   pub system : System
   pub runs : Runs me n period now system
-  pub is-station : heardAll n me now (λ q. underway system q me) (station system me) ≡ x
+  pub is-station : heardAll (hearing system) n me now (λ q. underway system q me) (station system me) ≡ x
   pub is-due : x .timer ≡ now
 
 -- in (c) station me is x, and its send chance is due

@@ -15,45 +15,45 @@ use Rattle.lists.proofs.Entries.{firsts-all}
 use Rattle.lists.proofs.Segment.{length-segment, segment-set, segment-other}
 use Rattle.layout.specs.Layout.{linkOf, linksOf}
 use Rattle.layout.proofs.Stores.{part, link-at, length-links, link-used, link-places, link-is}
-use Rattle.election.specs.System.{noMessage, noLink}
+use Rattle.election.specs.System.{noMessage, noLink, places}
 use Rattle.election.specs.declared.Link.{Link}
 use Rattle.election.specs.declared.Message.{Message}
 use Rattle.election.proofs.Link.{the-field}
 
 -- the first i messages of a list stand in stretch k, and the other stretches are as they were
 pub record Placed (k : ℕ) (new ms₀ ms : List Message) (i : ℕ) : Type 0 where
-  pub size : length ms ≡ 256
+  pub size : length ms ≡ (64 * places)
   pub others : (j : ℕ) → (j ≡ k → ⊥) → part ms j ≡ part ms₀ j
   pub front : (x : ℕ) → x < i → getD (part ms k) x noMessage ≡ getD new x noMessage
 
-pub placed-none : (k : ℕ) (new ms : List Message) → length ms ≡ 256 → Placed k new ms ms 0
+pub placed-none : (k : ℕ) (new ms : List Message) → length ms ≡ (64 * places) → Placed k new ms ms 0
 placed-none k new ms h = record { size = h; others = λ j ne. refl; front = λ x h. absurd (omega arith) }
 
-pub placed-turn : (k : ℕ) (new ms₀ ms : List Message) (i : ℕ) → Placed k new ms₀ ms i → k < 64 → i < 4 → Placed k new ms₀ (set ms (4 * k + i) (getD new i noMessage)) (i + 1)
+pub placed-turn : (k : ℕ) (new ms₀ ms : List Message) (i : ℕ) → Placed k new ms₀ ms i → k < 64 → i < places → Placed k new ms₀ (set ms (places * k + i) (getD new i noMessage)) (i + 1)
 placed-turn k new ms₀ ms i a hk hi =
     record {
-      size = length-set ms (4 * k + i) m ∙ a .size;
-      others = λ j ne. segment-other 4 noMessage ms k j i m hi ne ∙ a .others j ne;
+      size = length-set ms (places * k + i) m ∙ a .size;
+      others = λ j ne. segment-other places noMessage ms k j i m hi ne ∙ a .others j ne;
       front = λ x h. ap (λ (l : List Message). getD l x noMessage) stored ∙ at x h (ℕ-discrete x i);
     }
   where
     m : Message
     m = getD new i noMessage
 
-    stored : part (set ms (4 * k + i) m) k ≡ set (part ms k) i m
-    stored = segment-set 4 noMessage ms k i m hi (omega (arith, a .size))
+    stored : part (set ms (places * k + i) m) k ≡ set (part ms k) i m
+    stored = segment-set places noMessage ms k i m hi (omega (arith, a .size))
 
     at : (x : ℕ) → x < i + 1 → Dec (x ≡ i) → getD (set (part ms k) i m) x noMessage ≡ getD new x noMessage
-    at x h (yes e) = rw e (getD-set-same (part ms k) i m noMessage (omega (arith, length-segment 4 noMessage ms k)))
+    at x h (yes e) = rw e (getD-set-same (part ms k) i m noMessage (omega (arith, length-segment places noMessage ms k)))
     at x h (no ne) = getD-set-other (part ms k) i x m noMessage ne ∙ a .front x (omega arith)
 
 -- all four placed are the stretch
-pub placed-all : (k : ℕ) (new ms₀ ms : List Message) → Placed k new ms₀ ms 4 → length new ≡ 4 → part ms k ≡ new
+pub placed-all : (k : ℕ) (new ms₀ ms : List Message) → Placed k new ms₀ ms places → length new ≡ places → part ms k ≡ new
 placed-all k new ms₀ ms a h =
-    ext-getD noMessage (part ms k) new (length-segment 4 noMessage ms k ∙ sym h) (λ x b. a .front x (omega (arith, length-segment 4 noMessage ms k)))
+    ext-getD noMessage (part ms k) new (length-segment places noMessage ms k ∙ sym h) (λ x b. a .front x (omega (arith, length-segment places noMessage ms k)))
 
 -- each link of an array has four messages
-pub links-four : (links : List Link) (us : List Val) → shadow (each (the-field .row .Denot) (the-field .row .own) (map (the-field .into) links) us) → (k : ℕ) → k < length links → length (getD links k noLink .messages) ≡ 4
+pub links-four : (links : List Link) (us : List Val) → shadow (each (the-field .row .Denot) (the-field .row .own) (map (the-field .into) links) us) → (k : ℕ) → k < length links → length (getD links k noLink .messages) ≡ places
 links-four [] us s k h = absurd (omega arith)
 links-four (l ∷ links) [] s k h = absurd s
 links-four (l ∷ links) (u ∷ us) s zero h = simp length-map at (s .0 .1 .1 .1 .0 .1 .0 .1)
@@ -62,13 +62,13 @@ links-four (l ∷ links) (u ∷ us) s (suc k) h = links-four links us (s .1) k (
 -- the first k links are laid out
 pub record Laid (links : List Link) (used : List ℕ) (ms : List Message) (k : ℕ) : Type 0 where
   pub counts : length used ≡ 64
-  pub size : length ms ≡ 256
+  pub size : length ms ≡ (64 * places)
   pub same : (j : ℕ) → j < k → linkOf used ms j ≡ getD links j noLink
 
-pub laid-none : (links : List Link) (used : List ℕ) (ms : List Message) → length used ≡ 64 → length ms ≡ 256 → Laid links used ms 0
+pub laid-none : (links : List Link) (used : List ℕ) (ms : List Message) → length used ≡ 64 → length ms ≡ (64 * places) → Laid links used ms 0
 laid-none links used ms a b = record { counts = a; size = b; same = λ j h. absurd (omega arith) }
 
-pub laid-turn : (links : List Link) (used : List ℕ) (ms ms′ : List Message) (k : ℕ) → Laid links used ms k → k < 64 → Placed k (getD links k noLink .messages) ms ms′ 4 → length (getD links k noLink .messages) ≡ 4
+pub laid-turn : (links : List Link) (used : List ℕ) (ms ms′ : List Message) (k : ℕ) → Laid links used ms k → k < 64 → Placed k (getD links k noLink .messages) ms ms′ 4 → length (getD links k noLink .messages) ≡ places
     → Laid links (set used k (getD links k noLink .used)) ms′ (k + 1)
 laid-turn links used ms ms′ k a hk b four = record { counts = length-set used k u ∙ a .counts; size = b .size; same = λ j h. at j h (ℕ-discrete j k) }
   where
@@ -88,9 +88,9 @@ laid-all links used ms a h =
 
 -- the first i messages of stretch k, over the front of a list
 abbrev pub taken : List Message → ℕ → ℕ → List Message → List Message
-taken ms k i old = firsts i (λ i. getD ms (4 * k + i) noMessage) old
+taken ms k i old = firsts i (λ i. getD ms (places * k + i) noMessage) old
 
 -- with all four, and the count, they are the link
-pub taken-all : (used : List ℕ) (ms : List Message) (k : ℕ) (old : List Message) (l : Link) → length old ≡ 4 → l .used ≡ getD used k 0 → l .messages ≡ taken ms k 4 old → l ≡ linkOf used ms k
+pub taken-all : (used : List ℕ) (ms : List Message) (k : ℕ) (old : List Message) (l : Link) → length old ≡ places → l .used ≡ getD used k 0 → l .messages ≡ taken ms k 4 old → l ≡ linkOf used ms k
 unfolding segment
-taken-all used ms k old l h a b = sym (link-is used ms k l (sym a) (sym (b ∙ firsts-all 4 _ old h)))
+taken-all used ms k old l h a b = sym (link-is used ms k l (sym a) (sym (b ∙ firsts-all places _ old h)))

@@ -20,7 +20,7 @@ use Rattle.fit.specs.Fit.{countsIn}
 use Rattle.fit.proofs.Tests.{counts-of}
 use Rattle.election.specs.Idle.{Held}
 use Rattle.election.specs.Sound.{messageAt, emptyMessage, sound}
-use Rattle.election.specs.System.{noMessage, noLink, station, from, to, unused, messages, holding, isLink}
+use Rattle.election.specs.System.{noMessage, noLink, station, from, to, unused, messages, holding, isLink, places}
 use Rattle.election.specs.declared.Link.{Link}
 use Rattle.election.specs.declared.Message.{Message}
 use Rattle.election.proofs.Links.{Linked}
@@ -47,24 +47,24 @@ zero-unused m size e =
         z ∙ sym (getD-replicate {A = ℕ} 8 k 0 0 l))
 
 -- a link of four places, with zeros after its messages
-holding-is : (l : Link) → length (l .messages) ≡ 4 → l .used ≤ 4 → ((x : ℕ) → l .used ≤ x → x < 4 → messageAt l x ≡ unused) → holding (messages l) ≡ l
+holding-is : (l : Link) → length (l .messages) ≡ places → l .used ≤ places → ((x : ℕ) → l .used ≤ x → x < places → messageAt l x ≡ unused) → holding (messages l) ≡ l
 unfolding messages holding
 holding-is l size few rest = λ i. record { used = count i; messages = same i }
   where
     count : length (take (l .used) (l .messages)) ≡ l .used
     count = omega (arith, length-take (l .used) (l .messages))
 
-    same : over (take (l .used) (l .messages)) (replicate 4 unused) ≡ l .messages
+    same : over (take (l .used) (l .messages)) (replicate places unused) ≡ l .messages
     same =
-        ext-getD noMessage (over (take (l .used) (l .messages)) (replicate 4 unused)) (l .messages) (wide ∙ sym size)
-        (λ x h. at x (let z : x < 4 = omega (arith, wide) in z) (decLt x (l .used)))
+        ext-getD noMessage (over (take (l .used) (l .messages)) (replicate places unused)) (l .messages) (wide ∙ sym size)
+        (λ x h. at x (let z : x < places = omega (arith, wide) in z) (decLt x (l .used)))
       where
-        wide : length (over (take (l .used) (l .messages)) (replicate 4 unused)) ≡ 4
-        wide = length-over (take (l .used) (l .messages)) (replicate 4 unused) (omega (arith, count, length-replicate 4 unused)) ∙ length-replicate 4 unused
+        wide : length (over (take (l .used) (l .messages)) (replicate places unused)) ≡ places
+        wide = length-over (take (l .used) (l .messages)) (replicate places unused) (omega (arith, count, length-replicate places unused)) ∙ length-replicate places unused
 
-        at : (x : ℕ) → x < 4 → Dec (x < l .used) → getD (over (take (l .used) (l .messages)) (replicate 4 unused)) x noMessage ≡ getD (l .messages) x noMessage
-        at x h (yes i) = over-front (take (l .used) (l .messages)) (replicate 4 unused) x noMessage (omega (arith, count)) ∙ getD-take (l .used) (l .messages) x noMessage i
-        at x h (no i) = over-beyond (take (l .used) (l .messages)) (replicate 4 unused) x noMessage (omega (arith, count)) ∙ getD-replicate 4 x unused noMessage h ∙ sym (rest x (omega arith) h)
+        at : (x : ℕ) → x < places → Dec (x < l .used) → getD (over (take (l .used) (l .messages)) (replicate places unused)) x noMessage ≡ getD (l .messages) x noMessage
+        at x h (yes i) = over-front (take (l .used) (l .messages)) (replicate places unused) x noMessage (omega (arith, count)) ∙ getD-take (l .used) (l .messages) x noMessage i
+        at x h (no i) = over-beyond (take (l .used) (l .messages)) (replicate places unused) x noMessage (omega (arith, count)) ∙ getD-replicate places x unused noMessage h ∙ sym (rest x (omega arith) h)
 
 -- what owning an array of messages tells: each has eight counts
 pub counts-owned : (ms : List Message) (us : List Val) → shadow (each (the-field .row .Denot) (the-field .row .own) (map (the-field .into) ms) us) → (j : ℕ) → j < length ms → length (getD ms j noMessage .counts) ≡ 8
@@ -73,7 +73,7 @@ counts-owned (m ∷ ms) [] p j h = absurd p
 counts-owned (m ∷ ms) (u ∷ us) p zero h = simp length-map at (p .0 .1 .1 .1 .1 .0 .1 .0 .1)
 counts-owned (m ∷ ms) (u ∷ us) p (suc j) h = counts-owned ms us (p .1) j (omega arith)
 
-pub held-of : (s : Layout) → length (s .stations) ≡ 8 → length (s .sent) ≡ 8 → ((j : ℕ) → j < 256 → length (getD (s .messages) j noMessage .counts) ≡ 8) → sound (systemOf s) ≡ true → s .ready ≡ true → Held (systemOf s)
+pub held-of : (s : Layout) → length (s .stations) ≡ 8 → length (s .sent) ≡ 8 → ((j : ℕ) → j < (64 * places) → length (getD (s .messages) j noMessage .counts) ≡ 8) → sound (systemOf s) ≡ true → s .ready ≡ true → Held (systemOf s)
 held-of s stations sent counts e u = record { stations = stations; sent = sent; links = length-links (s .used) (s .messages); held = at }
   where
     at : (k : ℕ) → k < 64 → isLink (s .n) (from k) (to k) ≡ true → holding (messages (getD (systemOf s .links) k noLink)) ≡ getD (systemOf s .links) k noLink
@@ -81,7 +81,7 @@ held-of s stations sent counts e u = record { stations = stations; sent = sent; 
         let (hp, hq, ne) = link-of (s .n) (from k) (to k) (omega arith) (omega arith) i in
         let f : Linked (s .n) (s .period) (s .tick) (station (systemOf s) (from k)) (getD (systemOf s .links) k noLink) =
         subst (λ x. Linked (s .n) (s .period) (s .tick) (station (systemOf s) (from k)) (getD (systemOf s .links) x noLink)) (place-of k h) (sound-of (systemOf s) e u .linked (from k) (to k) hp hq ne) in
-        holding-is (getD (systemOf s .links) k noLink) (ap length (places-read s k h) ∙ length-segment 4 noMessage (s .messages) k) (f .few)
+        holding-is (getD (systemOf s .links) k noLink) (ap length (places-read s k h) ∙ length-segment places noMessage (s .messages) k) (f .few)
         (λ x b c. zero-unused (messageAt (getD (systemOf s .links) k noLink) x)
-        (ap (λ (m : Message). length (m .counts)) (ap (λ (l : List Message). getD l x noMessage) (places-read s k h) ∙ getD-segment 4 noMessage (s .messages) k x noMessage c) ∙ counts (4 * k + x) (omega arith))
+        (ap (λ (m : Message). length (m .counts)) (ap (λ (l : List Message). getD l x noMessage) (places-read s k h) ∙ getD-segment places noMessage (s .messages) k x noMessage c) ∙ counts (places * k + x) (omega arith))
         (f .rest x c b))

@@ -11,7 +11,7 @@ use lib.Dec.{ltb, eqb}
 use borrow.Author.Tests.{eq-eqb, ne-eqb}
 use Rattle.lists.specs.Entries.{over}
 use Rattle.lists.proofs.Segment.{length-segment, getD-segment}
-use Rattle.election.specs.System.{from, to, noMessage, noLink, unused, isLink, holding, unstarted, fresh, initial}
+use Rattle.election.specs.System.{from, to, noMessage, noLink, unused, isLink, holding, unstarted, fresh, initial, places}
 use Rattle.election.specs.declared.Message.{Message}
 use Rattle.station.specs.declared.Station.{Station}
 use Rattle.layout.specs.Layout.{linksOf, systemOf}
@@ -28,32 +28,32 @@ is-link-at n k =
     same (no ne) = rw (ne-eqb (k / 8) (k % 8) ne) (ne-eqb (from k) (to k) (λ e. ne (omega arith)))
 
 -- a layout with no message has empty links
-links-none : (m : Message) → m ≡ unused → linksOf (replicate 64 0) (replicate 256 m) ≡ replicate 64 (holding [])
+links-none : (m : Message) → m ≡ unused → linksOf (replicate 64 0) (replicate (64 * places) m) ≡ replicate 64 (holding [])
 unfolding holding over
 links-none m e =
-    ext-getD noLink (linksOf (replicate 64 0) (replicate 256 m)) (replicate 64 (holding [])) (length-links (replicate 64 0) (replicate 256 m))
+    ext-getD noLink (linksOf (replicate 64 0) (replicate (64 * places) m)) (replicate 64 (holding [])) (length-links (replicate 64 0) (replicate (64 * places) m))
     (λ k h.
-    let b : k < 64 = omega (arith, length-links (replicate 64 0) (replicate 256 m)) in
-    link-at (replicate 64 0) (replicate 256 m) k b
-    ∙ link-is (replicate 64 0) (replicate 256 m) k (holding []) (getD-replicate 64 k 0 0 b) (places k b)
+    let b : k < 64 = omega (arith, length-links (replicate 64 0) (replicate (64 * places) m)) in
+    link-at (replicate 64 0) (replicate (64 * places) m) k b
+    ∙ link-is (replicate 64 0) (replicate (64 * places) m) k (holding []) (getD-replicate 64 k 0 0 b) (all-unused k b)
     ∙ sym (getD-replicate 64 k (holding []) noLink b))
   where
-    places : (k : ℕ) → k < 64 → part (replicate 256 m) k ≡ replicate 4 unused
-    places k b =
-        ext-getD noMessage (part (replicate 256 m) k) (replicate 4 unused) (length-segment 4 noMessage (replicate 256 m) k)
+    all-unused : (k : ℕ) → k < 64 → part (replicate (64 * places) m) k ≡ replicate places unused
+    all-unused k b =
+        ext-getD noMessage (part (replicate (64 * places) m) k) (replicate places unused) (length-segment places noMessage (replicate (64 * places) m) k)
         (λ i h.
-        let c : i < 4 = omega (arith, length-segment 4 noMessage (replicate 256 m) k) in
-        getD-segment 4 noMessage (replicate 256 m) k i noMessage c ∙ getD-replicate 256 (4 * k + i) m noMessage (omega arith) ∙ e
-        ∙ sym (getD-replicate 4 i unused noMessage c))
+        let c : i < places = omega (arith, length-segment places noMessage (replicate (64 * places) m) k) in
+        getD-segment places noMessage (replicate (64 * places) m) k i noMessage c ∙ getD-replicate (64 * places) (places * k + i) m noMessage (omega arith) ∙ e
+        ∙ sym (getD-replicate places i unused noMessage c))
 
 -- what set up leaves, from its parts
 pub set-up-is : (n period : ℕ) (xs : List Station) (ds : List ℕ) (m : Message) → xs ≡ initial n 0 .stations → ds ≡ initial n 0 .delays → m ≡ unused
-    → systemOf (record { ready = true; n = n; period = period; tick = 0; stations = xs; sent = replicate 8 0; delays = ds; used = replicate 64 0; messages = replicate 256 m }) ≡ initial n period
+    → systemOf (record { ready = true; n = n; period = period; tick = 0; stations = xs; sent = replicate 8 0; delays = ds; used = replicate 64 0; messages = replicate (64 * places) m }) ≡ initial n period
 unfolding initial
 set-up-is n period xs ds m a b e = rw (a, b, links-none m e) refl
 
 -- the fresh system, from its empty station and message
 pub fresh-is : (x : Station) (m : Message) → x ≡ unstarted 0 → m ≡ unused
-    → systemOf (record { ready = false; n = 0; period = 0; tick = 0; stations = replicate 8 x; sent = replicate 8 0; delays = replicate 64 0; used = replicate 64 0; messages = replicate 256 m }) ≡ fresh
+    → systemOf (record { ready = false; n = 0; period = 0; tick = 0; stations = replicate 8 x; sent = replicate 8 0; delays = replicate 64 0; used = replicate 64 0; messages = replicate (64 * places) m }) ≡ fresh
 unfolding fresh
 fresh-is x m a e = rw (a, links-none m e) refl

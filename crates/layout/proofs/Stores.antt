@@ -12,7 +12,7 @@ use Rattle.lists.proofs.Entries.{length-upTo, getD-upTo}
 use Rattle.lists.proofs.Segment.{length-segment, segment-set, segment-other}
 use Rattle.station.specs.declared.Station.{Station}
 use Rattle.layout.specs.Layout.{linkOf, linksOf, systemOf}
-use Rattle.election.specs.System.{noMessage, noLink, unused, messages, holding}
+use Rattle.election.specs.System.{noMessage, noLink, unused, messages, holding, withLinks, places}
 use Rattle.layout.specs.declared.Layout.{Layout}
 use Rattle.election.specs.declared.Link.{Link}
 use Rattle.election.specs.declared.Message.{Message}
@@ -21,11 +21,11 @@ use Rattle.election.specs.declared.System.{System}
 -- the arrays are full
 pub record Wide (s : Layout) : Type 0 where
   pub used : length (s .used) ≡ 64
-  pub messages : length (s .messages) ≡ 256
+  pub messages : length (s .messages) ≡ (64 * places)
 
 -- stretch k of an array of messages
 abbrev pub part : List Message → ℕ → List Message
-part ms k = segment 4 noMessage ms k
+part ms k = segment places noMessage ms k
 
 -- the link at a place
 pub link-at : (used : List ℕ) (ms : List Message) (k : ℕ) → k < 64 → getD (linksOf used ms) k noLink ≡ linkOf used ms k
@@ -61,113 +61,71 @@ links-store used used′ ms ms′ k l h others e =
         ∙ sym (ap (λ j. getD (set (linksOf used ms) k l) j noLink) i ∙ getD-set-same (linksOf used ms) k l noLink (omega (arith, length-links used ms)))
     at j b (no i) = link-at used′ ms′ j b ∙ others j i ∙ sym (getD-set-other (linksOf used ms) k j l noLink i ∙ link-at used ms j b)
 
--- the layout with other messages, and with another count
-abbrev pub withMessages : List Message → Layout → Layout
-withMessages ms s =
+-- the layout with other stations, sent counts, delays, counts of messages and messages; all else stays
+abbrev pub relaid : List Station → List ℕ → List ℕ → List ℕ → List Message → Layout → Layout
+relaid stations sent delays used messages s =
     record {
       ready = s .ready;
       n = s .n;
       period = s .period;
       tick = s .tick;
-      stations = s .stations;
-      sent = s .sent;
-      delays = s .delays;
-      used = s .used;
-      messages = ms;
+      stations = stations;
+      sent = sent;
+      delays = delays;
+      used = used;
+      messages = messages;
     }
 
--- the layout with another count of messages
-abbrev pub withUsed : List ℕ → Layout → Layout
-withUsed us s =
-    record {
-      ready = s .ready;
-      n = s .n;
-      period = s .period;
-      tick = s .tick;
-      stations = s .stations;
-      sent = s .sent;
-      delays = s .delays;
-      used = us;
-      messages = s .messages;
-    }
-
--- the layout with other stations, and with other delays
+-- .. with one of these alone
 abbrev pub withStations : List Station → Layout → Layout
-withStations xs s =
-    record {
-      ready = s .ready;
-      n = s .n;
-      period = s .period;
-      tick = s .tick;
-      stations = xs;
-      sent = s .sent;
-      delays = s .delays;
-      used = s .used;
-      messages = s .messages;
-    }
+withStations xs s = relaid xs (s .sent) (s .delays) (s .used) (s .messages) s
+
+abbrev pub withSent : List ℕ → Layout → Layout
+withSent cs s = relaid (s .stations) cs (s .delays) (s .used) (s .messages) s
 
 abbrev pub withDelays : List ℕ → Layout → Layout
-withDelays ds s =
-    record {
-      ready = s .ready;
-      n = s .n;
-      period = s .period;
-      tick = s .tick;
-      stations = s .stations;
-      sent = s .sent;
-      delays = ds;
-      used = s .used;
-      messages = s .messages;
-    }
+withDelays ds s = relaid (s .stations) (s .sent) ds (s .used) (s .messages) s
 
--- the system with other links
-abbrev pub withLinks : List Link → System → System
-withLinks ls s =
-    record {
-      ready = s .ready;
-      n = s .n;
-      period = s .period;
-      tick = s .tick;
-      stations = s .stations;
-      sent = s .sent;
-      delays = s .delays;
-      links = ls;
-    }
+abbrev pub withUsed : List ℕ → Layout → Layout
+withUsed us s = relaid (s .stations) (s .sent) (s .delays) us (s .messages) s
+
+abbrev pub withMessages : List Message → Layout → Layout
+withMessages ms s = relaid (s .stations) (s .sent) (s .delays) (s .used) ms s
 
 -- the places from `to` up to j are zero, and the others as they were
 pub record Clearing (k : ℕ) (s₀ s : Layout) (to j : ℕ) : Type 0 where
   pub same : s ≡ withMessages (s .messages) s₀
-  pub size : length (s .messages) ≡ 256
+  pub size : length (s .messages) ≡ (64 * places)
   pub others : (i : ℕ) → (i ≡ k → ⊥) → part (s .messages) i ≡ part (s₀ .messages) i
   pub low : (x : ℕ) → x < to → getD (part (s .messages) k) x noMessage ≡ getD (part (s₀ .messages) k) x noMessage
   pub zeros : (x : ℕ) → to ≤ x → x < j → getD (part (s .messages) k) x noMessage ≡ unused
   pub high : (x : ℕ) → j ≤ x → getD (part (s .messages) k) x noMessage ≡ getD (part (s₀ .messages) k) x noMessage
 
-pub clearing-none : (k : ℕ) (s : Layout) (to : ℕ) → length (s .messages) ≡ 256 → Clearing k s s to to
+pub clearing-none : (k : ℕ) (s : Layout) (to : ℕ) → length (s .messages) ≡ (64 * places) → Clearing k s s to to
 clearing-none k s to h = record { same = refl; size = h; others = λ i ne. refl; low = λ x h. refl; zeros = λ x a b. absurd (omega arith); high = λ x h. refl }
 
-pub clearing-turn : (k : ℕ) (s₀ s : Layout) (to j : ℕ) → Clearing k s₀ s to j → k < 64 → j < 4 → to ≤ j → (m : Message) (y : Layout) → m ≡ unused → y ≡ withMessages (set (s .messages) (4 * k + j) m) s → Clearing k s₀ y to (j + 1)
+pub clearing-turn : (k : ℕ) (s₀ s : Layout) (to j : ℕ) → Clearing k s₀ s to j → k < 64 → j < places → to ≤ j → (m : Message) (y : Layout) → m ≡ unused → y ≡ withMessages (set (s .messages) (places * k + j) m) s → Clearing k s₀ y to (j + 1)
 clearing-turn k s₀ s to j a hk hj le m y e g =
     rw g
     (record {
-      same = ap (λ (x : Layout). withMessages (set (s .messages) (4 * k + j) m) x) (a .same);
-      size = length-set (s .messages) (4 * k + j) m ∙ a .size;
-      others = λ i ne. segment-other 4 noMessage (s .messages) k i j m hj ne ∙ a .others i ne;
+      same = ap (λ (x : Layout). withMessages (set (s .messages) (places * k + j) m) x) (a .same);
+      size = length-set (s .messages) (places * k + j) m ∙ a .size;
+      others = λ i ne. segment-other places noMessage (s .messages) k i j m hj ne ∙ a .others i ne;
       low = λ x h. old x (λ i. omega arith) ∙ a .low x h;
       zeros = λ x b c. at x b c (ℕ-discrete x j);
       high = λ x h. old x (λ i. omega arith) ∙ a .high x (omega arith);
     })
   where
-    stored : part (set (s .messages) (4 * k + j) m) k ≡ set (part (s .messages) k) j m
-    stored = segment-set 4 noMessage (s .messages) k j m hj (omega (arith, a .size))
+    stored : part (set (s .messages) (places * k + j) m) k ≡ set (part (s .messages) k) j m
+    stored = segment-set places noMessage (s .messages) k j m hj (omega (arith, a .size))
 
-    old : (x : ℕ) → (x ≡ j → ⊥) → getD (part (set (s .messages) (4 * k + j) m) k) x noMessage ≡ getD (part (s .messages) k) x noMessage
+    old : (x : ℕ) → (x ≡ j → ⊥) → getD (part (set (s .messages) (places * k + j) m) k) x noMessage ≡ getD (part (s .messages) k) x noMessage
     old x ne = ap (λ (l : List Message). getD l x noMessage) stored ∙ getD-set-other (part (s .messages) k) j x m noMessage ne
 
-    at : (x : ℕ) → to ≤ x → x < j + 1 → Dec (x ≡ j) → getD (part (set (s .messages) (4 * k + j) m) k) x noMessage ≡ unused
+    at : (x : ℕ) → to ≤ x → x < j + 1 → Dec (x ≡ j) → getD (part (set (s .messages) (places * k + j) m) k) x noMessage ≡ unused
     at x b c (yes i) =
         ap (λ (l : List Message). getD l x noMessage) stored ∙ ap (λ x. getD (set (part (s .messages) k) j m) x noMessage) i
-        ∙ getD-set-same (part (s .messages) k) j m noMessage (omega (arith, length-segment 4 noMessage (s .messages) k)) ∙ e
+        ∙ getD-set-same (part (s .messages) k) j m noMessage (omega (arith, length-segment places noMessage (s .messages) k)) ∙ e
     at x b c (no i) = old x i ∙ a .zeros x b (omega arith)
 
 -- what is read of a link is what the link has
@@ -183,7 +141,7 @@ module _ (s : Layout) (k : ℕ) (hk : k < 64) where
   messages-read u e = ap (λ (n : ℕ). take n (getD (systemOf s .links) k noLink .messages)) (used-read ∙ sym e) ∙ ap (take u) places-read
 
 -- a link whose messages are lost: its places are zero, and so is its count
-pub lost-read : (k : ℕ) (s₀ s y : Layout) → Clearing k s₀ s 0 4 → Wide s₀ → k < 64 → y ≡ withUsed (set (s .used) k 0) s → systemOf y ≡ withLinks (set (systemOf s₀ .links) k (holding [])) (systemOf s₀)
+pub lost-read : (k : ℕ) (s₀ s y : Layout) → Clearing k s₀ s 0 places → Wide s₀ → k < 64 → y ≡ withUsed (set (s .used) k 0) s → systemOf y ≡ withLinks (set (systemOf s₀ .links) k (holding [])) (systemOf s₀)
 unfolding holding over
 lost-read k s₀ s y b wide hk g =
     ap systemOf (g ∙ ap (λ (z : Layout). withUsed (set (z .used) k 0) z) (b .same))
@@ -192,7 +150,7 @@ lost-read k s₀ s y b wide hk g =
     (λ j ne. link-is (set (s₀ .used) k 0) (s .messages) j (linkOf (s₀ .used) (s₀ .messages) j) (getD-set-other (s₀ .used) k j 0 0 ne ∙ sym (link-used (s₀ .used) (s₀ .messages) j)) (b .others j ne ∙ sym (link-places (s₀ .used) (s₀ .messages) j)))
     (link-is (set (s₀ .used) k 0) (s .messages) k (holding []) (getD-set-same (s₀ .used) k 0 0 (omega (arith, wide .used))) zeros))
   where
-    zeros : part (s .messages) k ≡ replicate 4 unused
+    zeros : part (s .messages) k ≡ replicate places unused
     zeros =
-        ext-getD noMessage (part (s .messages) k) (replicate 4 unused) (length-segment 4 noMessage (s .messages) k)
-        (λ x h. (let z : x < 4 = omega (arith, length-segment 4 noMessage (s .messages) k) in b .zeros x (omega arith) z ∙ sym (getD-replicate 4 x unused noMessage z)))
+        ext-getD noMessage (part (s .messages) k) (replicate places unused) (length-segment places noMessage (s .messages) k)
+        (λ x h. (let z : x < places = omega (arith, length-segment places noMessage (s .messages) k) in b .zeros x (omega arith) z ∙ sym (getD-replicate places x unused noMessage z)))

@@ -1,11 +1,12 @@
 // A system laid out for the code that works on it in place.
 use election::Message;
+use election::PLACES;
 use station::Station;
 
 pub mod rules;
 
 // A system with the messages of all links in one array, so that each is read and stored where it stands: of the link at place k how
-// many there are, and its messages from 4 * k on, the used places first.
+// many there are, and its messages from PLACES * k on, the used places first.
 pub struct Layout {
     pub ready: bool,
     pub n: u8,
@@ -15,5 +16,5 @@ pub struct Layout {
     pub sent: [u32; 8],
     pub delays: [u8; 64],
     pub used: [u8; 64],
-    pub messages: [Message; 256],
+    pub messages: [Message; 64 * PLACES],
 }

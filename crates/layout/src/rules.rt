@@ -8,6 +8,7 @@ ghost use Rattle.layout.specs.Layout.{systemOf};
 use crate::Layout;
 use election::Link;
 use election::Message;
+use election::PLACES;
 use election::System;
 use station::Station;
 
@@ -109,7 +110,7 @@ pub fn set_up(n: u8, period: u32) -> Layout
         sent: [0; 8],
         delays,
         used: [0; 64],
-        messages: [empty; 256],
+        messages: [empty; 64 * PLACES],
     }
 }
 
@@ -128,7 +129,7 @@ pub fn fresh() -> Layout
         sent: [0; 8],
         delays: [0; 64],
         used: [0; 64],
-        messages: [empty; 256],
+        messages: [empty; 64 * PLACES],
     }
 }
 
@@ -138,12 +139,12 @@ pub fn layout_of(s: System) -> Layout
 {
     let empty = unused();
     let mut used = [0u8; 64];
-    let mut messages = [empty; 256];
+    let mut messages = [empty; 64 * PLACES];
     for k in 0..64 {
         let l = s.links[k];
         used[k] = l.used;
-        for i in 0..4 {
-            messages[4 * k + i] = l.messages[i];
+        for i in 0..PLACES {
+            messages[PLACES * k + i] = l.messages[i];
         }
     }
     let stations = s.stations;
@@ -169,14 +170,14 @@ pub fn system_of(x: Layout) -> System
     let empty = unused();
     let none = Link {
         used: 0,
-        messages: [empty; 4],
+        messages: [empty; PLACES],
     };
     let mut links = [none; 64];
     for k in 0..64 {
         let mut l = none;
         l.used = x.used[k];
-        for i in 0..4 {
-            l.messages[i] = x.messages[4 * k + i];
+        for i in 0..PLACES {
+            l.messages[i] = x.messages[PLACES * k + i];
         }
         links[k] = l;
     }

@@ -8,14 +8,18 @@ use native.Mathlib.Omega.{arith}
 use native.Mathlib.Decide.{ℕ-discrete, decLt}
 use lib.ListN.{length, getD}
 use Rattle.station.specs.Order.{entry}
-use Rattle.station.specs.Rules.{joined, heard}
+use Rattle.station.specs.Rules.{joined, heard, expired, slotted}
 use Rattle.station.specs.declared.Station.{Station}
 use Rattle.station.proofs.Candidates.{key, keyOf}
-use Rattle.station.proofs.Elimination.{heard-elim, expired-elim}
+use Rattle.station.proofs.Elimination.{heard-elim, expired-elim, slottedAt, slotted-elim}
 use Rattle.station.proofs.Vectors.{joined-at, inside}
 use Rattle.election.specs.Tick.{expiredNow, slottedNow}
 use Rattle.election.proofs.Places.{In}
 use Rattle.election.proofs.Steps.{expiredNow-elim, slottedNow-elim}
+
+-- a send chance, if it is due
+pub slots-elim : (P : Station → Type 0) (period now : ℕ) (x : Station) → (x .slot ≡ now → P (slottedAt (now + period) x)) → (x .slot ≢ now → P x) → P (slottedNow (slotted period now) now x)
+slots-elim P period now x a b = slottedNow-elim P (slotted period now) now x (λ e. slotted-elim P period now x (a e)) b
 
 -- the entry of joined counts
 pub entry-joined : (n : ℕ) → n ≤ 8 → (v w : List ℕ) (q : ℕ) → In n q → entry (joined v w) q ≡ max (entry v q) (entry w q)
@@ -73,9 +77,9 @@ module _ (n period : ℕ) (small : n ≤ 8) (S : ℕ → Bool) (C : ℕ → ℕ)
   pub due-place : (now : ℕ) (x : Station) → 1 ≤ now → Sane n period S C p now x → x .timer ≡ now → x .leader - 1 < length (x .timeouts)
   due-place now x low h e = inside (x .timeouts) (x .leader - 1) (omega (arith, h .slow (x .leader) (h .range) (due-other now x low h e)))
 
-  pub expire-sane : (now : ℕ) (x : Station) → 1 ≤ now → Sane n period S C p now x → Sane n period S C p (now + 1) (expiredNow p now x)
+  pub expire-sane : (now : ℕ) (x : Station) → 1 ≤ now → Sane n period S C p now x → Sane n period S C p (now + 1) (expiredNow (expired p) now x)
   expire-sane now x low h =
-      expiredNow-elim (Sane n period S C p (now + 1)) p now x
+      expiredNow-elim (Sane n period S C p (now + 1)) (expired p) now x
       (λ e.
       expired-elim (Sane n period S C p (now + 1)) p x (due-place now x low h e)
       (λ t size at same.
@@ -90,8 +94,8 @@ module _ (n period : ℕ) (small : n ≤ 8) (S : ℕ → Bool) (C : ℕ → ℕ)
       }))
       (λ e. record { own = h .own; low = h .low; range = h .range; ahead = h .ahead; slow = h .slow; on = λ ne. omega (arith, h .on ne); off = h .off })
 
-  pub slot-sane : (b now : ℕ) (x : Station) → Sane n period S C p b x → Sane n period S C p b (slottedNow period now x)
+  pub slot-sane : (b now : ℕ) (x : Station) → Sane n period S C p b x → Sane n period S C p b (slottedNow (slotted period now) now x)
   slot-sane b now x h =
-      slottedNow-elim (Sane n period S C p b) period now x
+      slots-elim (Sane n period S C p b) period now x
       (λ e. record { own = h .own; low = h .low; range = h .range; ahead = h .ahead; slow = h .slow; on = h .on; off = h .off })
       (λ e. h)

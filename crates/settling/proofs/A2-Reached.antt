@@ -15,15 +15,16 @@ use Rattle.lists.proofs.Every.{all-map, all-append}
 use Rattle.station.specs.Order.{entry}
 use Rattle.station.specs.declared.Station.{Station}
 use Rattle.station.proofs.Unchanged.{Unchanged}
+use Rattle.election.specs.Heads.{hearing}
 use Rattle.election.specs.System.{station, delay, underway}
 use Rattle.election.specs.Tick.{next, settled, sending, later, sent, underwayAfter, tick}
 use Rattle.election.specs.declared.Message.{Message}
 use Rattle.election.specs.declared.System.{System}
-use Rattle.settling.proofs.A1-Sane.{Sane, hear-sane, expire-sane, slot-sane}
+use Rattle.settling.proofs.A1-Sane.{slots-elim, Sane, hear-sane, expire-sane, slot-sane}
 use Rattle.election.proofs.Counts.{counts}
 use Rattle.election.proofs.Places.{In, tick-station, tick-underway}
 use Rattle.election.proofs.Soundness.{Sound}
-use Rattle.election.proofs.Steps.{slottedNow-elim, all-keeps, settled-up, settled-unchanged, sending-of, tick-up, tick-count}
+use Rattle.election.proofs.Steps.{all-keeps, settled-up, settled-unchanged, sending-of, tick-up, tick-count}
 use Rattle.election.proofs.TickSound.{tick-sound, after-few}
 use Rattle.election.proofs.Underway.{inbox-all, later-all, sent-all}
 
@@ -55,8 +56,8 @@ module _ (s : System) (h : Reached s) where
   settled-sane p ip u =
       rw (settled-up s p u)
       (expire-sane (s .n) (s .period) small always (counts s) p ip (next s) _ (omega arith)
-      (all-keeps (Sane (s .n) (s .period) always (counts s) p (next s)) (λ q v. (q ≢ p) × ((x : ℕ) → In (s .n) x → entry v x ≤ counts s x)) (s .n) p (next s) (λ q. underway s q p)
-      (λ q v y iq f. hear-sane (s .n) (s .period) small always (counts s) p ip (next s) q v y refl iq (f .0) (λ x ix t. f .1 x ix))
+      (all-keeps (hearing s) (Sane (s .n) (s .period) always (counts s) p (next s)) (λ q m. (q ≢ p) × Low s m) (s .n) p (next s) (λ q. underway s q p)
+      (λ q m y iq f. hear-sane (s .n) (s .period) small always (counts s) p ip (next s) q (m .counts) y refl iq (f .0) (λ x ix t. f .1 x ix))
       (λ q iq. all-map (λ m. (q ≢ p) × Low s m) _ (λ m f e. f) (underway s q p) (inbox-all s (h .sound) (λ q. Low s) p ip (λ q iq ne. h .mail q p iq ip ne) q iq))
       (station s p) (h .heads p ip u)))
 
@@ -70,7 +71,7 @@ module _ (s : System) (h : Reached s) where
       let v : Unchanged (station s p) (settled s p) = settled-unchanged s p in
       let old : station s p .recovering ≡ false → station s p .slot ≤ s .tick + s .period = h .paced p ip (sym (tick-up s small p ip) ∙ u) in
       rw (tick-station s small p ip)
-      (slottedNow-elim (λ (y : Station). y .recovering ≡ false → y .slot ≤ next s + s .period) (s .period) (next s) (settled s p)
+      (slots-elim (λ (y : Station). y .recovering ≡ false → y .slot ≤ next s + s .period) (s .period) (next s) (settled s p)
       (λ e w. omega arith) (λ e w. omega (arith, v .slot, old (sym (v .recovering) ∙ w))))
 
   mail′ : s .tick < 1000000 → (q p : ℕ) → In (s .n) q → In (s .n) p → q ≢ p → All (λ (m : Message). (x : ℕ) → In (s .n) x → entry (m .counts) x ≤ counts (tick s) x) (underway (tick s) q p)

@@ -10,6 +10,7 @@ use native.Mathlib.Omega.{arith}
 use lib.ListN.{length, getD-replicate}
 use lib.Seq.{getD-set-same, getD-set-other}
 use borrow.Author.Tests.{ne-eqb, eq-eqb}
+use Rattle.fit.specs.Fit.{longestDelay}
 use Rattle.lists.specs.Every.{All}
 use Rattle.lists.specs.First.{firstFailed}
 use Rattle.lists.proofs.Every.{all-map}
@@ -21,9 +22,9 @@ use Rattle.station.proofs.Elimination.{started-elim}
 use Rattle.station.proofs.Fields.{started-count, started-recovering, crashed-count, crashed-up}
 use Rattle.fit.proofs.Tests.{fit-ranges}
 use Rattle.station.proofs.Vectors.{other-of}
-use Rattle.election.specs.Commands.{Command, SetUp, Start, Crash, Link, Run, Lose, Report, tests, withStation, withDelay, withoutMessages, perform}
+use Rattle.election.specs.Commands.{Command, SetUp, Start, Crash, Link, Run, Lose, Report, tests, perform}
+use Rattle.election.specs.System.{withStation, withDelay, withoutMessages, noStation, noLink, station, place, messages, holding, underway, fresh, initial}
 use Rattle.election.specs.Sound.{sound}
-use Rattle.election.specs.System.{noStation, noLink, station, place, messages, holding, underway, fresh, initial}
 use Rattle.election.specs.Tick.{ticks}
 use Rattle.election.specs.declared.Message.{Message}
 use Rattle.election.specs.declared.System.{System}
@@ -133,7 +134,7 @@ lose-reached s h a b ia ib ne =
           lost-elim s a b (widen (s .n) a (h .sound .n-high) ia) (widen (s .n) b (h .sound .n-high) ib) (All (Low s)) q p (widen (s .n) q (h .sound .n-high) iq) (widen (s .n) p (h .sound .n-high) ip) (h .mail q p iq ip d) (λ e f. tt);
     }
 
-pub delay-reached : (s : System) → Reached s → (a b d : ℕ) → In (s .n) a → In (s .n) b → a ≢ b → d ≤ 64 → Reached (withDelay a b d s)
+pub delay-reached : (s : System) → Reached s → (a b d : ℕ) → In (s .n) a → In (s .n) b → a ≢ b → d ≤ longestDelay → Reached (withDelay a b d s)
 delay-reached s h a b d ia ib ne few =
     record { sound = delay-sound s (h .sound) a b ia ib ne d few; heads = h .heads; paced = h .paced; mail = h .mail }
 

@@ -8,15 +8,15 @@ use native.Mathlib.Omega.{arith}
 use native.Mathlib.Decide.{ℕ-discrete, decLt}
 use lib.ListN.{length, getD}
 use Rattle.station.specs.Order.{entry}
-use Rattle.station.specs.Rules.{joined, heard}
+use Rattle.station.specs.Rules.{joined, heard, expired, slotted}
 use Rattle.station.specs.declared.Station.{Station}
 use Rattle.station.proofs.Candidates.{key, keyOf}
 use Rattle.station.proofs.Elimination.{heard-elim, expired-elim}
 use Rattle.station.proofs.Vectors.{joined-at, inside}
 use Rattle.election.specs.Tick.{expiredNow, slottedNow}
 use Rattle.election.proofs.Places.{In}
-use Rattle.election.proofs.Steps.{expiredNow-elim, slottedNow-elim}
-use Rattle.settling.proofs.A1-Sane.{entry-joined, raised, Known, Sane, joined-own, joined-low, hear-sane, due-place, expire-sane, slot-sane}
+use Rattle.election.proofs.Steps.{expiredNow-elim}
+use Rattle.settling.proofs.A1-Sane.{slots-elim, entry-joined, raised, Known, Sane, joined-own, joined-low, hear-sane, due-place, expire-sane, slot-sane}
 
 -- The numbers of a stretch: stations, period, L, d, the tick from which it goes, M and W then, who is steady, and the counts.
 pub record Stretch : Type 0 where
@@ -61,9 +61,9 @@ module _ (K : Stretch) (p : ℕ) (ip : In (K .n) p) (Sp : K .steady p ≡ true) 
       (λ a b z. record { sane = z; quick = h .quick; dying = λ ne le. h .dying ne (omega (arith, entry-joined (K .n) (K .small) (x .recovered) v (x .leader) (h .sane .range))) })
       (hear-sane (K .n) (K .period) (K .small) (K .steady) (K .C) p ip now q v x Sp iq qp (f .counts) (h .sane))
 
-  pub expire-calm : (now : ℕ) (x : Station) → 1 ≤ now → Calm K p now x → Calm K p (now + 1) (expiredNow p now x)
+  pub expire-calm : (now : ℕ) (x : Station) → 1 ≤ now → Calm K p now x → Calm K p (now + 1) (expiredNow (expired p) now x)
   expire-calm now x low h =
-      expiredNow-elim (λ (y : Station). Sane (K .n) (K .period) (K .steady) (K .C) p (now + 1) y → Calm K p (now + 1) y) p now x
+      expiredNow-elim (λ (y : Station). Sane (K .n) (K .period) (K .steady) (K .C) p (now + 1) y → Calm K p (now + 1) y) (expired p) now x
       (λ e.
       expired-elim (λ (y : Station). Sane (K .n) (K .period) (K .steady) (K .C) p (now + 1) y → Calm K p (now + 1) y) p x (due-place (K .n) (K .period) (K .small) (K .steady) (K .C) p ip now x low (h .sane) e)
       (λ t size at same z.
@@ -75,9 +75,9 @@ module _ (K : Stretch) (p : ℕ) (ip : In (K .n) p) (Sp : K .steady p ≡ true) 
       (λ e z. record { sane = z; quick = λ q iq ne. omega (arith, h .quick q iq ne); dying = h .dying })
       (expire-sane (K .n) (K .period) (K .small) (K .steady) (K .C) p ip now x low (h .sane))
 
-  pub slot-calm : (b now : ℕ) (x : Station) → Calm K p b x → Calm K p b (slottedNow (K .period) now x)
+  pub slot-calm : (b now : ℕ) (x : Station) → Calm K p b x → Calm K p b (slottedNow (slotted (K .period) now) now x)
   slot-calm b now x h =
-      slottedNow-elim (λ (y : Station). Sane (K .n) (K .period) (K .steady) (K .C) p b y → Calm K p b y) (K .period) now x
+      slots-elim (λ (y : Station). Sane (K .n) (K .period) (K .steady) (K .C) p b y → Calm K p b y) (K .period) now x
       (λ e z. record { sane = z; quick = h .quick; dying = h .dying })
       (λ e z. h)
       (slot-sane (K .n) (K .period) (K .small) (K .steady) (K .C) p ip b now x (h .sane))

@@ -16,18 +16,19 @@ use Rattle.lists.proofs.Bools.{cond-elim}
 use Rattle.lists.proofs.Every.{all-map}
 use Rattle.lists.proofs.Fold.{each-keeps}
 use Rattle.station.specs.Order.{entry}
-use Rattle.station.specs.Rules.{heard}
+use Rattle.station.specs.Rules.{heard, expired, slotted}
 use Rattle.station.specs.declared.Station.{Station}
 use Rattle.station.proofs.Candidates.{key}
 use Rattle.station.proofs.Elimination.{expired-elim}
 use Rattle.station.proofs.Unchanged.{heard-timeouts}
+use Rattle.election.specs.Heads.{byCounts}
 use Rattle.election.specs.Tick.{heardLink, heardAll, expiredNow, slottedNow}
 use Rattle.election.specs.declared.Message.{Message}
 use Rattle.settling.proofs.B-Calm.{Stretch, keyL, Calm, Fair, hear-calm, expire-calm, slot-calm, Trusts, hear-L, hear-other, hear-not}
-use Rattle.settling.proofs.A1-Sane.{due-place}
+use Rattle.settling.proofs.A1-Sane.{slots-elim, due-place}
 use Rattle.election.proofs.Places.{In, seat-in}
 use Rattle.settling.proofs.E1-Phase.{Move, heard as hears, runs, ends, waits, soon}
-use Rattle.election.proofs.Steps.{expiredNow-elim, slottedNow-elim, link-keeps, all-keeps}
+use Rattle.election.proofs.Steps.{expiredNow-elim, link-keeps, all-keeps}
 
 -- A message of the list is due now.
 pub data Due (now : ℕ) : List Message → Type 0 where
@@ -94,10 +95,10 @@ module _ (K : Stretch) (p now : ℕ) (ip : In (K .n) p) (Sp : K .steady p ≡ tr
         go (yes e) = rw e (hear-from-L v x (rw e at f) (h .waiting))
         go (no ne) = hear-heard _ q v x iq ne f h
 
-    link-hit : (ms : List Message) (x : Station) → Due now ms → FairTo K p now (K .L) ms → Waits K p now w x → Heard K p now w hit (heardLink p (K .L) now ms x)
+    link-hit : (ms : List Message) (x : Station) → Due now ms → FairTo K p now (K .L) ms → Waits K p now w x → Heard K p now w hit (heardLink byCounts p (K .L) now ms x)
     unfolding heardLink
     link-hit (m ∷ ms) x (here e) f h =
-        link-keeps (Heard K p now w hit) (λ v. (K .L ≢ p) × Fair K now (K .L) v) p now (K .L) (λ v y. hear-again (K .L) v y (K .L-in)) ms _ (f .1)
+        link-keeps byCounts (Heard K p now w hit) (λ m. (K .L ≢ p) × Fair K now (K .L) (m .counts)) p now (K .L) (λ m y. hear-again (K .L) (m .counts) y (K .L-in)) ms _ (f .1)
         (cond-elim (Heard K p now w hit) (eqb (m .due) now) (λ t. hear-from-L (m .counts) x (f .0 e) h) (λ t. absurd (eqb-false _ _ t e)))
     link-hit (m ∷ ms) x (there g) f h =
         link-hit ms _ g (f .1)
@@ -105,13 +106,13 @@ module _ (K : Stretch) (p now : ℕ) (ip : In (K .n) p) (Sp : K .steady p ≡ tr
 
     module _ (inbox : ℕ → List Message) (fair : (q : ℕ) → In (K .n) q → FairTo K p now q (inbox q)) where
       step : ℕ → Station → Station
-      step k = heardLink p (k + 1) now (inbox (k + 1))
+      step k = heardLink byCounts p (k + 1) now (inbox (k + 1))
 
       first-waits : (m : ℕ) (x : Station) → m ≤ K .n → Waits K p now w x → Waits K p now w (each m step x)
       unfolding step
       first-waits m x top h =
           each-keeps (Waits K p now w) m step x
-          (λ k y l r. link-keeps (Waits K p now w) (λ v. (k + 1 ≢ p) × Fair K now (k + 1) v) p now (k + 1) (λ v z. hear-waits w (k + 1) v z (seat-in (K .n) k (omega arith))) (inbox (k + 1)) y (fair (k + 1) (seat-in (K .n) k (omega arith))) r) h
+          (λ k y l r. link-keeps byCounts (Waits K p now w) (λ m. (k + 1 ≢ p) × Fair K now (k + 1) (m .counts)) p now (k + 1) (λ m z. hear-waits w (k + 1) (m .counts) z (seat-in (K .n) k (omega arith))) (inbox (k + 1)) y (fair (k + 1) (seat-in (K .n) k (omega arith))) r) h
 
       first-hit : Due now (inbox (K .L)) → (m : ℕ) (x : Station) → K .L ≤ m → m ≤ K .n → Waits K p now w x → Heard K p now w hit (each m step x)
       unfolding each step
@@ -121,9 +122,9 @@ module _ (K : Stretch) (p now : ℕ) (ip : In (K .n) p) (Sp : K .steady p ≡ tr
           go : Dec (m + 1 ≡ K .L) → (m + 1 ≢ K .L → Heard K p now w hit (each m step x)) → Heard K p now w hit (step m (each m step x))
           go (yes e) rest = rw e (link-hit (inbox (K .L)) (each m step x) g (fair (K .L) (K .L-in)) (first-waits m x (omega arith) h))
           go (no ne) rest =
-              link-keeps (Heard K p now w hit) (λ v. (m + 1 ≢ p) × Fair K now (m + 1) v) p now (m + 1) (λ v z. hear-again (m + 1) v z (seat-in (K .n) m (omega arith))) (inbox (m + 1)) (each m step x) (fair (m + 1) (seat-in (K .n) m (omega arith))) (rest ne)
+              link-keeps byCounts (Heard K p now w hit) (λ a. (m + 1 ≢ p) × Fair K now (m + 1) (a .counts)) p now (m + 1) (λ a z. hear-again (m + 1) (a .counts) z (seat-in (K .n) m (omega arith))) (inbox (m + 1)) (each m step x) (fair (m + 1) (seat-in (K .n) m (omega arith))) (rest ne)
 
-      pub all-hit : Due now (inbox (K .L)) → (x : Station) → Waits K p now w x → Heard K p now w hit (heardAll (K .n) p now inbox x)
+      pub all-hit : Due now (inbox (K .L)) → (x : Station) → Waits K p now w x → Heard K p now w hit (heardAll byCounts (K .n) p now inbox x)
       unfolding heardAll step
       all-hit g x h = first-hit g (K .n) x (K .L-in .high) (omega arith) h
 
@@ -136,15 +137,15 @@ module _ (K : Stretch) (p now : ℕ) (ip : In (K .n) p) (Sp : K .steady p ≡ tr
             go (yes e) = rw e (all-map (λ (m : Message). m .due ≢ now) _ (λ m ne d. absurd (ne d)) (inbox (K .L)) none)
             go (no ne) = all-map (λ (m : Message). m .due ≡ now → (q ≢ p) × Fair K now q (m .counts)) _ (λ m f d. (ne, f d)) (inbox q) (fair q iq)
 
-        pub all-heard : (t : ℕ) (x : Station) → Heard K p now w t x → Heard K p now w t (heardAll (K .n) p now inbox x)
+        pub all-heard : (t : ℕ) (x : Station) → Heard K p now w t x → Heard K p now w t (heardAll byCounts (K .n) p now inbox x)
         all-heard t x h =
-            all-keeps (Heard K p now w t) (λ q v. (q ≢ K .L) × ((q ≢ p) × Fair K now q v)) (K .n) p now inbox
-            (λ q v y iq f. hear-heard t q v y iq (f .0) (f .1)) others x h
+            all-keeps byCounts (Heard K p now w t) (λ q m. (q ≢ K .L) × ((q ≢ p) × Fair K now q (m .counts))) (K .n) p now inbox
+            (λ q m y iq f. hear-heard t q (m .counts) y iq (f .0) (f .1)) others x h
 
-        pub all-lost : (x : Station) → Lost K p now w x → Lost K p now w (heardAll (K .n) p now inbox x)
+        pub all-lost : (x : Station) → Lost K p now w x → Lost K p now w (heardAll byCounts (K .n) p now inbox x)
         all-lost x h =
-            all-keeps (Lost K p now w) (λ q v. (q ≢ K .L) × ((q ≢ p) × Fair K now q v)) (K .n) p now inbox
-            (λ q v y iq f. hear-lost q v y iq (f .0) (f .1)) others x h
+            all-keeps byCounts (Lost K p now w) (λ q m. (q ≢ K .L) × ((q ≢ p) × Fair K now q (m .counts))) (K .n) p now inbox
+            (λ q m y iq f. hear-lost q (m .counts) y iq (f .0) (f .1)) others x h
 
 -- The timeout for L above the period.
 abbrev pub spare : Stretch → Station → ℕ
@@ -152,21 +153,21 @@ spare K x = entry (x .timeouts) (K .L) - K .period
 
 -- The whole tick of a station: hearing, the timer, the send chance.
 abbrev pub ticked : ℕ → ℕ → ℕ → ℕ → (ℕ → List Message) → Station → Station
-ticked n period p now inbox x = slottedNow period now (expiredNow p now (heardAll n p now inbox x))
+ticked n period p now inbox x = slottedNow (slotted period now) now (expiredNow (expired p) now (heardAll byCounts n p now inbox x))
 
-pub slot-leader : (period now : ℕ) (x : Station) → slottedNow period now x .leader ≡ x .leader
-slot-leader period now x = slottedNow-elim (λ (y : Station). y .leader ≡ x .leader) period now x (λ e. refl) (λ e. refl)
+pub slot-leader : (period now : ℕ) (x : Station) → slottedNow (slotted period now) now x .leader ≡ x .leader
+slot-leader period now x = slots-elim (λ (y : Station). y .leader ≡ x .leader) period now x (λ e. refl) (λ e. refl)
 
-pub slot-timer : (period now : ℕ) (x : Station) → slottedNow period now x .timer ≡ x .timer
-slot-timer period now x = slottedNow-elim (λ (y : Station). y .timer ≡ x .timer) period now x (λ e. refl) (λ e. refl)
+pub slot-timer : (period now : ℕ) (x : Station) → slottedNow (slotted period now) now x .timer ≡ x .timer
+slot-timer period now x = slots-elim (λ (y : Station). y .timer ≡ x .timer) period now x (λ e. refl) (λ e. refl)
 
-pub slot-timeouts : (period now : ℕ) (x : Station) → slottedNow period now x .timeouts ≡ x .timeouts
-slot-timeouts period now x = slottedNow-elim (λ (y : Station). y .timeouts ≡ x .timeouts) period now x (λ e. refl) (λ e. refl)
+pub slot-timeouts : (period now : ℕ) (x : Station) → slottedNow (slotted period now) now x .timeouts ≡ x .timeouts
+slot-timeouts period now x = slots-elim (λ (y : Station). y .timeouts ≡ x .timeouts) period now x (λ e. refl) (λ e. refl)
 
 module _ (K : Stretch) (p now : ℕ) (low : 1 ≤ now) (ip : In (K .n) p) (Sp : K .steady p ≡ true) (least : keyL K ≤ key (K .C p) p)
     (inbox : ℕ → List Message) (fair : (q : ℕ) → In (K .n) q → FairTo K p now q (inbox q)) where
-  pub all-calm : (x : Station) → Calm K p now x → Calm K p now (heardAll (K .n) p now inbox x)
-  all-calm x h = all-keeps (Calm K p now) (λ q v. (q ≢ p) × Fair K now q v) (K .n) p now inbox (λ q v y iq f. hear-calm K p ip Sp least now q v y iq (f .0) (f .1)) fair x h
+  pub all-calm : (x : Station) → Calm K p now x → Calm K p now (heardAll byCounts (K .n) p now inbox x)
+  all-calm x h = all-keeps byCounts (Calm K p now) (λ q m. (q ≢ p) × Fair K now q (m .counts)) (K .n) p now inbox (λ q m y iq f. hear-calm K p ip Sp least now q (m .counts) y iq (f .0) (f .1)) fair x h
 
   pub ticked-calm : (x : Station) → Calm K p now x → Calm K p (now + 1) (ticked (K .n) (K .period) p now inbox x)
   ticked-calm x h = slot-calm K p ip Sp least (now + 1) now _ (expire-calm K p ip Sp least now _ low (all-calm x h))
@@ -179,12 +180,12 @@ module _ (K : Stretch) (p now : ℕ) (low : 1 ≤ now) (ip : In (K .n) p) (Sp : 
         → (ticked (K .n) (K .period) p now inbox x .leader ≡ K .L) × (ticked (K .n) (K .period) p now inbox x .timer ≡ now + entry (x .timeouts) (K .L))
         × (entry (ticked (K .n) (K .period) p now inbox x .timeouts) (K .L) ≡ entry (x .timeouts) (K .L))
     tick-hit g =
-        let r : Heard K p now (x .timeouts) (now + entry (x .timeouts) (K .L)) (heardAll (K .n) p now inbox x) =
+        let r : Heard K p now (x .timeouts) (now + entry (x .timeouts) (K .L)) (heardAll byCounts (K .n) p now inbox x) =
         all-hit K p now ip Sp least pL late (x .timeouts) inbox fair g x (record { calm = h; same = refl }) in
         rw (slot-leader, slot-timer, slot-timeouts)
         (expiredNow-elim
         (λ (y : Station). (y .leader ≡ K .L) × (y .timer ≡ now + entry (x .timeouts) (K .L)) × (entry (y .timeouts) (K .L) ≡ entry (x .timeouts) (K .L)))
-        p now (heardAll (K .n) p now inbox x)
+        (expired p) now (heardAll byCounts (K .n) p now inbox x)
         (λ e. absurd (omega (arith, r .trusting .timer-at, slow-L)))
         (λ e. (r .trusting .leader-L, r .trusting .timer-at, ap (λ l. entry l (K .L)) (r .waiting .same))))
 
@@ -204,16 +205,16 @@ module _ (K : Stretch) (p now : ℕ) (low : 1 ≤ now) (ip : In (K .n) p) (Sp : 
       move-quiet none le = rw (slot-leader, slot-timer, slot-timeouts) (go (ℕ-discrete (x .leader) (K .L)))
         where
           z : Station
-          z = heardAll (K .n) p now inbox x
+          z = heardAll byCounts (K .n) p now inbox x
 
           place : Calm K p now z → z .timer ≡ now → z .leader - 1 < length (z .timeouts)
           place c f = due-place (K .n) (K .period) (K .small) (K .steady) (K .C) p ip now z low (c .sane) f
 
-          go : Dec (x .leader ≡ K .L) → MoveTo (expiredNow p now z)
+          go : Dec (x .leader ≡ K .L) → MoveTo (expiredNow (expired p) now z)
           go (yes e) =
-              let r : Heard K p now (x .timeouts) (x .timer) (heardAll (K .n) p now inbox x) =
+              let r : Heard K p now (x .timeouts) (x .timer) (heardAll byCounts (K .n) p now inbox x) =
               all-heard K p now ip Sp least pL late (x .timeouts) inbox fair none (x .timer) x (record { waiting = record { calm = h; same = refl }; trusting = record { leader-L = e; timer-at = refl } }) in
-              expiredNow-elim MoveTo p now z
+              expiredNow-elim MoveTo (expired p) now z
               (λ f.
               expired-elim MoveTo p z (place (r .waiting .calm) f)
               (λ t size at same.
@@ -223,9 +224,9 @@ module _ (K : Stretch) (p now : ℕ) (low : 1 ≤ now) (ip : In (K .n) p) (Sp : 
               rw (eq-eqb _ _ e, ne-eqb p (K .L) pL) (ends (sym (r .trusting .timer-at) ∙ f) (omega (arith, slow-L)) le)))
               (λ f. rw (eq-eqb _ _ e, eq-eqb _ _ (r .trusting .leader-L)) (runs (r .trusting .timer-at) (ap (λ l. entry l (K .L) - K .period) (r .waiting .same)) le))
           go (no ne) =
-              let r : Lost K p now (x .timeouts) (heardAll (K .n) p now inbox x) =
+              let r : Lost K p now (x .timeouts) (heardAll byCounts (K .n) p now inbox x) =
               all-lost K p now ip Sp least pL late (x .timeouts) inbox fair none x (record { waiting = record { calm = h; same = refl }; not-L = ne }) in
-              expiredNow-elim MoveTo p now z
+              expiredNow-elim MoveTo (expired p) now z
               (λ f.
               expired-elim MoveTo p z (place (r .waiting .calm) f)
               (λ t size at same.

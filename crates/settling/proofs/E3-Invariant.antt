@@ -13,6 +13,7 @@ use borrow.Author.Tests.{eq-eqb, ne-eqb}
 use Rattle.lists.specs.Every.{All}
 use Rattle.lists.proofs.Every.{all-map, all-append}
 use Rattle.station.specs.Order.{entry}
+use Rattle.station.specs.Rules.{slotted}
 use Rattle.station.specs.declared.Station.{Station}
 use Rattle.station.proofs.Candidates.{key, keyOf}
 use Rattle.election.specs.System.{station, delay, underway}
@@ -70,12 +71,12 @@ module _ (K : Stretch) (s : System) (h : Inv K s) where
   pub n-high : s .n ≤ 8
   n-high = h .reached .sound .n-high
 
-  pub station-next : (p : ℕ) → In (K .n) p → station (tick s) p ≡ slottedNow (K .period) (next s) (settled s p)
-  station-next p i = tick-station s n-high p (in-s p i) ∙ ap (λ b. slottedNow b (next s) (settled s p)) (h .same-period)
+  pub station-next : (p : ℕ) → In (K .n) p → station (tick s) p ≡ slottedNow (slotted (K .period) (next s)) (next s) (settled s p)
+  station-next p i = tick-station s n-high p (in-s p i) ∙ ap (λ b. slottedNow (slotted b (next s)) (next s) (settled s p)) (h .same-period)
 
   pub steady-next : (p : ℕ) → In (K .n) p → K .steady p ≡ true → station (tick s) p ≡ ticked (K .n) (K .period) p (next s) (λ q. underway s q p) (station s p)
   steady-next p i u =
-      station-next p i ∙ ap (slottedNow (K .period) (next s)) (settled-up s p (h .ups p i u))
+      station-next p i ∙ ap (slottedNow (slotted (K .period) (next s)) (next s)) (settled-up s p (h .ups p i u))
       ∙ ap (λ n. ticked n (K .period) p (next s) (λ q. underway s q p) (station s p)) (h .same-n)
 
   fair : (p : ℕ) → In (K .n) p → K .steady p ≡ true → (q : ℕ) → In (K .n) q → FairTo K p (next s) q (underway s q p)

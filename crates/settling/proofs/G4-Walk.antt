@@ -9,15 +9,16 @@ use native.Mathlib.Omega.{arith}
 use lib.Dec.{eqb}
 use lib.ListN.{getD}
 use borrow.Author.Tests.{eqb-true}
+use Rattle.fit.specs.Fit.{longestDelay}
 use Rattle.lists.specs.Every.{All}
 use Rattle.lists.specs.Test.{allTo}
 use Rattle.lists.proofs.Every.{all-left, all-right}
 use Rattle.lists.proofs.Test.{all-same}
-use Rattle.election.specs.Commands.{Command, SetUp, Start, Crash, Link, Run, Lose, Report, decode, withDelay, withoutMessages, perform}
+use Rattle.election.specs.Commands.{Command, SetUp, Start, Crash, Link, Run, Lose, Report, decode, perform}
+use Rattle.election.specs.System.{withDelay, withoutMessages, noStation, station, delay, underway}
 use Rattle.election.specs.Listing.{trusts, agreed}
 use Rattle.settling.specs.Settling.{moments, ticksOf, befores, divided, dividedTicks, Permitted, LosesNone, Each, Sent}
 use Rattle.election.specs.History.{accepted, after}
-use Rattle.election.specs.System.{noStation, station, delay, underway}
 use Rattle.election.specs.Tick.{tick, ticks}
 use Rattle.election.specs.declared.Message.{Message}
 use Rattle.election.specs.declared.System.{System}
@@ -128,7 +129,7 @@ module _ (K : Stretch) (x : System) (a b : ℕ) (ia : In (x .n) a) (ib : In (x .
           go false e = zero-le
           go true u = le-of-eq (ap f (same-underway (K .L) (k + 1) (K .L-in) (seat-in (K .n) k l) (K .L-steady) u))
 
-delay-inv : (K : Stretch) (x : System) (a b d : ℕ) → In (x .n) a → In (x .n) b → a ≢ b → d ≤ 64 → Inv K x → Inv K (withDelay a b d x)
+delay-inv : (K : Stretch) (x : System) (a b d : ℕ) → In (x .n) a → In (x .n) b → a ≢ b → d ≤ longestDelay → Inv K x → Inv K (withDelay a b d x)
 delay-inv K x a b d ia ib ne few h =
     record {
       same-n = h .same-n;

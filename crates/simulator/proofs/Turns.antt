@@ -17,11 +17,11 @@ use Rattle.lists.specs.First.{firstFailed}
 use Rattle.lists.proofs.First.{passed}
 use Rattle.fit.specs.Fit.{within}
 use Rattle.station.specs.declared.Station.{Station}
-use Rattle.election.specs.Commands.{Command, SetUp, Start, Crash, Link, Run, Lose, Report, Result, decode, operands, tests, ruling, perform, refusal, command, numberOf, withStation, withDelay, withoutMessages}
+use Rattle.election.specs.Commands.{Command, SetUp, Start, Crash, Link, Run, Lose, Report, Result, decode, operands, tests, ruling, perform, refusal, command, numberOf}
+use Rattle.election.specs.System.{withStation, withDelay, withoutMessages, noStation, place, holding, withLinks, places}
 use Rattle.election.specs.Listing.{listing, longestListing}
 use Rattle.election.specs.Onward.{Halt, after, toList, goOn}
 use Rattle.election.specs.Sound.{sound}
-use Rattle.election.specs.System.{noStation, place, holding}
 use Rattle.election.specs.declared.Refusal.{Refusal}
 use Rattle.election.specs.declared.System.{System}
 use Rattle.election.proofs.FromOffset.{command-inside}
@@ -29,7 +29,7 @@ use Rattle.election.proofs.GoingOn.{go-end, go-refused, go-full, go-after}
 use Rattle.election.proofs.KeepsSound.{keeps-sound}
 use Rattle.layout.specs.Layout.{systemOf}
 use Rattle.layout.specs.declared.Layout.{Layout}
-use Rattle.layout.proofs.Stores.{Wide, withStations, withDelays, withUsed, withLinks, Clearing, lost-read}
+use Rattle.layout.proofs.Stores.{Wide, withStations, withDelays, withUsed, Clearing, lost-read}
 use Rattle.listing.specs.Wrote.{Wrote}
 use Rattle.listing.proofs.Parts.{wrote-none, wrote-part, wrote-length}
 use Rattle.simulator.specs.Decided.{Sees, Taken, decided, meaning}
@@ -97,9 +97,9 @@ station-stored s y p x e = ap systemOf e
 pub delay-stored : (s y : Layout) (k p q x : ℕ) → k ≡ place p q → y ≡ withDelays (set (s .delays) k x) s → systemOf y ≡ withDelay p q x (systemOf s)
 delay-stored s y k p q x h e = ap systemOf e ∙ ap (λ i. systemOf (withDelays (set (s .delays) i x) s)) h
 
-pub messages-stored : (s z y : Layout) (k p q i : ℕ) → k ≡ place p q → k < 64 → Wide s → Clearing k s z 0 i → i ≡ 4 → y ≡ withUsed (set (z .used) k 0) z → Wide y × (systemOf y ≡ withoutMessages p q (systemOf s))
+pub messages-stored : (s z y : Layout) (k p q i : ℕ) → k ≡ place p q → k < 64 → Wide s → Clearing k s z 0 i → i ≡ places → y ≡ withUsed (set (z .used) k 0) z → Wide y × (systemOf y ≡ withoutMessages p q (systemOf s))
 messages-stored s z y k p q i h hk wide clear all e =
-    let cleared : Clearing k s z 0 4 = subst (Clearing k s z 0) all clear in
+    let cleared : Clearing k s z 0 places = subst (Clearing k s z 0) all clear in
     (subst Wide (sym e) (record { used = length-set (z .used) k 0 ∙ ap (λ (x : Layout). length (x .used)) (cleared .same) ∙ wide .used; messages = cleared .size }), lost-read k s z y cleared wide hk e ∙ ap (λ j. withLinks (set (systemOf s .links) j (holding [])) (systemOf s)) h)
 
 -- where going on stands: a sound system, at an offset, with a text written to the buffer; it leads to what going on from the start leads to

@@ -9,6 +9,7 @@ use crate::rules::decision::Decision;
 use crate::rules::decision::decide;
 use crate::rules::decision::named;
 use crate::widths::width;
+use election::PLACES;
 use election::Refusal;
 use layout::Layout;
 use layout::rules::place_of;
@@ -84,8 +85,8 @@ pub fn go_on(mut s: Layout, from: usize, bytes: &[u8], list: bool, buffer: &mut 
             }
             Decision::Lose { from, to } => {
                 let link = place_of(from, to);
-                for i in 0..4 {
-                    s.messages[4 * link + i] = empty;
+                for i in 0..PLACES {
+                    s.messages[PLACES * link + i] = empty;
                 }
                 s.used[link] = 0;
             }

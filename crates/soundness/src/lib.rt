@@ -2,16 +2,23 @@
 ghost use mathlib.Core.Path.{_≡_};
 ghost use Prim.Native.Nat.{_<_, _≤_};
 ghost use Rattle.lists.specs.Test.{allTo};
-ghost use Rattle.election.specs.System.{isLink};
+ghost use Rattle.election.specs.System.{places, isLink};
 ghost use Rattle.election.specs.Sound.{emptyStation, emptyMessage, messageIn, beforeSlot, messagePlace, apart, spaced, placesIn, ordered, linkIn, emptyPlaces, linkPlace, stationPlace, placeIn, stationIn, sound};
 use election::Link;
 use election::Message;
+use election::PLACES;
 use election::System;
+use fit::LONGEST_DELAY;
 use fit::cleared;
 use fit::counts_in;
 use fit::fit;
 use fit::wide;
 use station::Station;
+
+// The longest delay, and the count of a link whose places are all used.
+const LONGEST: u64 = LONGEST_DELAY as u64;
+
+const FULL: u8 = PLACES as u8;
 
 // Whether a place beyond the stations is zero.
 fn empty_station(x: Station) -> bool
@@ -33,7 +40,7 @@ fn message_in(n: u8, tick: u32, m: Message) -> bool
     ensures { λ r. ⌜ r ≡ messageIn n tick m ⌝ }
 {
     let v = m.counts;
-    let last = wide(m.sent) + 64;
+    let last = wide(m.sent) + LONGEST;
     (m.sent <= tick) & (tick < m.due) & (wide(m.due) <= last) & counts_in(n, v)
 }
 
@@ -62,7 +69,7 @@ fn places_in(n: u8, period: u32, tick: u32, sender: Station, l: Link) -> bool
     ensures { λ r. ⌜ r ≡ placesIn n period tick sender l ⌝ }
 {
     let ms = l.messages;
-    for k in 0..4 {
+    for k in 0..PLACES {
         let used = k < l.used as usize;
         if !message_place(n, period, tick, sender, used, ms[k]) {
             return false;
@@ -81,7 +88,7 @@ fn apart(period: u32, older: Message, younger: Message) -> bool
 
 // Whether the message at place k was sent at least a period before the one after it, if there is one.
 fn spaced(period: u32, l: Link, k: usize) -> bool
-    requires { ⌜ (l .used ≤ 4) × (k < 4) ⌝ }
+    requires { ⌜ (l .used ≤ places) × (k < places) ⌝ }
     ensures { λ r. ⌜ r ≡ spaced period l k ⌝ }
 {
     let ms = l.messages;
@@ -94,10 +101,10 @@ fn spaced(period: u32, l: Link, k: usize) -> bool
 
 // Whether the messages of a link stand oldest first, sendings at least a period apart.
 fn ordered(period: u32, l: Link) -> bool
-    requires { ⌜ l .used ≤ 4 ⌝ }
+    requires { ⌜ l .used ≤ places ⌝ }
     ensures { λ r. ⌜ r ≡ ordered period l ⌝ }
 {
-    for k in 0..4 {
+    for k in 0..PLACES {
         if !spaced(period, l, k) {
             return false;
         }
@@ -109,7 +116,7 @@ fn ordered(period: u32, l: Link) -> bool
 fn link_in(n: u8, period: u32, tick: u32, sender: Station, l: Link) -> bool
     ensures { λ r. ⌜ r ≡ linkIn n period tick sender l ⌝ }
 {
-    if 4 < l.used {
+    if FULL < l.used {
         return false;
     }
     places_in(n, period, tick, sender, l) & ordered(period, l)
@@ -120,7 +127,7 @@ fn empty_places(l: Link) -> bool
     ensures { λ r. ⌜ r ≡ emptyPlaces l ⌝ }
 {
     let ms = l.messages;
-    for k in 0..4 {
+    for k in 0..PLACES {
         if !empty_message(ms[k]) {
             return false;
         }
@@ -151,7 +158,7 @@ fn link_place(
     ensures { λ r. ⌜ r ≡ linkPlace n period tick p q delay sender l ⌝ }
 {
     if is_link(n, p, q) {
-        (delay <= 64) & link_in(n, period, tick, sender, l)
+        (delay <= LONGEST_DELAY) & link_in(n, period, tick, sender, l)
     } else {
         (delay == 0) & (l.used == 0) & empty_places(l)
     }

@@ -10,6 +10,7 @@ use lib.ListN.{length, getD, set}
 use lib.Seq.{set-getD, getD-set-same}
 use borrow.Author.Count.{below-more}
 use borrow.Author.Tests.{le-ltb, eq-eqb, ne-eqb, eqb-false, not-true}
+use Rattle.election.specs.Heads.{slotting}
 use Rattle.lists.specs.Entries.{firsts}
 use Rattle.lists.proofs.Bools.{both, cond-yes, cond-no}
 use Rattle.lists.proofs.Entries.{firsts-zero, firsts-turn, firsts-beyond, firsts-idle, length-firsts}
@@ -17,16 +18,14 @@ use Rattle.station.specs.Limits.{lastTick}
 use Rattle.station.specs.Rules.{slotted}
 use Rattle.station.specs.declared.Station.{Station}
 use Rattle.election.specs.Idle.{quietStation, quietLink}
-use Rattle.election.specs.System.{noStation, noLink, from, to, messages, holding, isLink}
+use Rattle.election.specs.System.{noStation, noLink, from, to, messages, holding, isLink, withLinks, withStations, withSent, renewed, places}
 use Rattle.election.specs.Tick.{slottedNow}
 use Rattle.election.specs.declared.Link.{Link}
 use Rattle.election.specs.declared.Message.{Message}
 use Rattle.election.specs.declared.System.{System}
 use Rattle.election.proofs.Places.{is-link, seat-in}
 use Rattle.election.proofs.Soundness.{no-self}
-use Rattle.layout.proofs.Stores.{withLinks}
 use Rattle.ticks.specs.Sending.{sentOver, sendsNow}
-use Rattle.ticks.proofs.Hearing.{withStations}
 
 -- m is the system of n stations where (c) begins: after (a) and (b), its links without what was due now. now is the tick.
 
@@ -36,7 +35,7 @@ sendsAt now m k = sendsNow (k + 1) now (getD (m .stations) k noStation)
 
 -- what stands at place k after the tick: station, sent count, link
 unfoldable pub stationAfter : ℕ → System → ℕ → Station
-stationAfter now m k = slottedNow (m .period) now (getD (m .stations) k noStation)
+stationAfter now m k = slottedNow (slotting m now) now (getD (m .stations) k noStation)
 
 unfoldable pub sentAfter : ℕ → System → ℕ → ℕ
 sentAfter now m k = cond (sendsAt now m k) (getD (m .sent) k 0 + (m .n - 1)) (getD (m .sent) k 0)
@@ -50,16 +49,7 @@ linkAfter n now m k = cond (isLink n (from k) (to k)) (newLink now m (k / 8) k) 
 -- the system in which the first p stations, c sent counts and k links are after the tick
 unfoldable pub sentTo : ℕ → ℕ → System → ℕ → ℕ → ℕ → System
 sentTo n now m p c k =
-    record {
-      ready = m .ready;
-      n = m .n;
-      period = m .period;
-      tick = m .tick;
-      stations = firsts p (stationAfter now m) (m .stations);
-      sent = firsts c (sentAfter now m) (m .sent);
-      delays = m .delays;
-      links = firsts k (linkAfter n now m) (m .links);
-    }
+    renewed (m .tick) (firsts p (stationAfter now m) (m .stations)) (firsts c (sentAfter now m) (m .sent)) (m .delays) (firsts k (linkAfter n now m) (m .links)) m
 
 -- what the sending is given
 pub record Mid (n now : ℕ) (m : System) : Type 0 where
@@ -72,7 +62,7 @@ pub record Mid (n now : ℕ) (m : System) : Type 0 where
   pub sent-long : length (m .sent) ≡ 8
   pub links-long : length (m .links) ≡ 64
   pub sent-low : (p : ℕ) → p < n → getD (m .sent) p 0 ≤ 7000000
-  pub room : (p q : ℕ) → p < n → q < n → (p ≡ q → ⊥) → length (messages (getD (m .links) (8 * p + q) noLink) ++ sentOver now (sendsAt now m p) (getD (m .delays) (8 * p + q) 0) (getD (m .stations) p noStation .recovered)) ≤ 4
+  pub room : (p q : ℕ) → p < n → q < n → (p ≡ q → ⊥) → length (messages (getD (m .links) (8 * p + q) noLink) ++ sentOver now (sendsAt now m p) (getD (m .delays) (8 * p + q) 0) (getD (m .stations) p noStation .recovered)) ≤ places
   pub held : (k : ℕ) → k < 64 → isLink n (from k) (to k) ≡ true → holding (messages (getD (m .links) k noLink)) ≡ getD (m .links) k noLink
 
 -- so far, and nothing of what is done, or was on a link before, is due after now and up to a tick
@@ -89,33 +79,10 @@ unfolding sentTo
 part-none n now m until f calm =
     record {
       mid = f;
-      same = λ i. record {
-        ready = m .ready;
-        n = m .n;
-        period = m .period;
-        tick = m .tick;
-        stations = firsts-zero (stationAfter now m) (m .stations) i;
-        sent = firsts-zero (sentAfter now m) (m .sent) i;
-        delays = m .delays;
-        links = firsts-zero (linkAfter n now m) (m .links) i;
-      };
+      same = λ i. renewed (m .tick) (firsts-zero (stationAfter now m) (m .stations) i) (firsts-zero (sentAfter now m) (m .sent) i) (m .delays) (firsts-zero (linkAfter n now m) (m .links) i) m;
       calm-stations = λ t j a b h. absurd (omega arith);
       calm-links = λ t j a b h. absurd (omega arith);
       calm-kept = calm;
-    }
-
--- the system with other sent counts
-abbrev pub withSent : List ℕ → System → System
-withSent cs s =
-    record {
-      ready = s .ready;
-      n = s .n;
-      period = s .period;
-      tick = s .tick;
-      stations = s .stations;
-      sent = cs;
-      delays = s .delays;
-      links = s .links;
     }
 
 module _ (n now : ℕ) (m : System) (until : ℕ) (s : System) (p c k : ℕ) (a : Part n now m until s p c k) where
@@ -236,7 +203,7 @@ module _ (n now : ℕ) (m : System) (until : ℕ) (s : System) (p c k : ℕ) (a 
   part-slots until′ v y h le due e g calm =
       rw g
       (stationed until′ v h le
-      (e ∙ ap (λ (x : ℕ). slotted x now (getD (s .stations) p noStation)) part-period ∙ sym (cond-yes {b = eqb (getD (s .stations) p noStation .slot) now} _ _ (eq-eqb _ _ due)) ∙ ap (slottedNow (m .period) now) part-station)
+      (e ∙ ap (λ (x : ℕ). slotted x now (getD (s .stations) p noStation)) part-period ∙ sym (cond-yes {b = eqb (getD (s .stations) p noStation .slot) now} _ _ (eq-eqb _ _ due)) ∙ ap (slottedNow (slotting m now) now) part-station)
       (λ t b d. subst (λ x. quietStation t x ≡ true) (ap (λ (z : System). getD (z .stations) p noStation) g ∙ getD-set-same (s .stations) p v noStation (omega (arith, part-long (omega arith)))) (calm t b d)))
 
   pub part-waits : (until′ : ℕ) (y : System) → p < 8 → until′ ≤ until → (getD (s .stations) p noStation .slot ≡ now → ⊥) → y ≡ s → ((t : ℕ) → now < t → t ≤ until′ → quietStation t (getD (y .stations) p noStation) ≡ true)
@@ -245,7 +212,7 @@ module _ (n now : ℕ) (m : System) (until : ℕ) (s : System) (p c k : ℕ) (a 
   part-waits until′ y h le due g calm =
       rw (g, ← set-getD (s .stations) p noStation)
       (stationed until′ (getD (s .stations) p noStation) h le
-      (sym (cond-no {b = eqb (getD (s .stations) p noStation .slot) now} (slotted (m .period) now (getD (s .stations) p noStation)) (getD (s .stations) p noStation) (ne-eqb _ _ due)) ∙ ap (slottedNow (m .period) now) part-station)
+      (sym (cond-no {b = eqb (getD (s .stations) p noStation .slot) now} (slotted (m .period) now (getD (s .stations) p noStation)) (getD (s .stations) p noStation) (ne-eqb _ _ due)) ∙ ap (slottedNow (slotting m now) now) part-station)
       (λ t b d. subst (λ (z : System). quietStation t (getD (z .stations) p noStation) ≡ true) g (calm t b d)))
 
 -- places with no link
@@ -343,10 +310,10 @@ module _ (n now : ℕ) (m : System) (until : ℕ) (s : System) (p : ℕ) (hp : p
       link-is : getD (m .links) (8 * p + q) noLink ≡ getD (s .links) (8 * p + q) noLink
       link-is = sym (part-link n now m until s p p (8 * p + q) a)
 
-      pub sent-room : length (messages (getD (s .links) (8 * p + q) noLink) ++ (message ∷ [])) ≤ 4
+      pub sent-room : length (messages (getD (s .links) (8 * p + q) noLink) ++ (message ∷ [])) ≤ places
       sent-room =
-          subst (λ ms. length (messages (getD (s .links) (8 * p + q) noLink) ++ ms) ≤ 4) message-is
-          (subst (λ l. length (messages l ++ sentOver now (sendsAt now m p) (getD (m .delays) (8 * p + q) 0) (getD (m .stations) p noStation .recovered)) ≤ 4) link-is (a .mid .room p q hp hq differ))
+          subst (λ ms. length (messages (getD (s .links) (8 * p + q) noLink) ++ ms) ≤ places) message-is
+          (subst (λ l. length (messages l ++ sentOver now (sendsAt now m p) (getD (m .delays) (8 * p + q) 0) (getD (m .stations) p noStation .recovered)) ≤ places) link-is (a .mid .room p q hp hq differ))
 
       pub sent-held : holding (messages (getD (s .links) (8 * p + q) noLink)) ≡ getD (s .links) (8 * p + q) noLink
       sent-held = subst (λ l. holding (messages l) ≡ l) link-is (a .mid .held (8 * p + q) k-low (linked n p q (a .mid .n-high) hp hq differ))

@@ -15,9 +15,9 @@ use Rattle.station.specs.Rules.{expired, slotted}
 use Rattle.station.specs.declared.Station.{Station}
 use Rattle.layout.specs.Layout.{systemOf}
 use Rattle.layout.specs.declared.Layout.{Layout}
-use Rattle.layout.proofs.Stores.{Wide, withMessages, withUsed, withStations}
+use Rattle.layout.proofs.Stores.{Wide, withMessages, withUsed, withStations, withSent}
 use Rattle.election.specs.Idle.{quietStation}
-use Rattle.election.specs.System.{noStation}
+use Rattle.election.specs.System.{noStation, places}
 use Rattle.election.specs.declared.System.{System}
 use Rattle.ticks.specs.Sending.{sendsNow, timerEnds}
 use Rattle.ticks.proofs.After.{Part, sendsAt, part-beyond, part-long, part-sent, part-n, part-period, part-row, part-rests, part-skips, part-counts, part-silent, part-slots, part-waits}
@@ -25,21 +25,6 @@ use Rattle.ticks.proofs.Hearing.{endedAt, endedTo}
 use Rattle.ticks.proofs.Quiet.{Before}
 use Rattle.ticks.proofs.Sent.{place-free, message-sent}
 use Rattle.ticks.proofs.Silent.{Silent}
-
--- the layout with other sent counts
-abbrev withSent : List ℕ → Layout → Layout
-withSent cs s =
-    record {
-      ready = s .ready;
-      n = s .n;
-      period = s .period;
-      tick = s .tick;
-      stations = s .stations;
-      sent = cs;
-      delays = s .delays;
-      used = s .used;
-      messages = s .messages;
-    }
 
 -- s₀ is the system after (a). In s the timers of the first e stations have ended if they were due; the rest is part of (c) where all have.
 pub record Chances (n now : ℕ) (s₀ : System) (until : ℕ) (s : Layout) (e p c k : ℕ) : Type 0 where
@@ -200,10 +185,10 @@ module _ (n now : ℕ) (s₀ : System) (until : ℕ) (s : Layout) (p : ℕ) (hp 
       still : Wide (withStations (a .stations) s)
       still = record { used = wide .used; messages = wide .messages }
 
-      pub chances-free : u < 4
+      pub chances-free : u < places
       chances-free = place-free n now (endedTo n now s₀) until (withStations (a .stations) s) p q hp hq (a .part) still d ed test sends counts ec u e
 
-      pub chances-sends : (v until′ until₂ : ℕ) (y : Layout) → v ≡ u + 1 → y ≡ withUsed (set (s .used) (8 * p + q) v) (withMessages (set (s .messages) (4 * (8 * p + q) + u) (record { sent = now; due = now + d; counts = counts })) s)
+      pub chances-sends : (v until′ until₂ : ℕ) (y : Layout) → v ≡ u + 1 → y ≡ withUsed (set (s .used) (8 * p + q) v) (withMessages (set (s .messages) (places * (8 * p + q) + u) (record { sent = now; due = now + d; counts = counts })) s)
           → until₂ ≡ until′ → until′ ≤ until → Before now (now + d) until′ → Chances n now s₀ until₂ y (p + 1) p p (8 * p + (q + 1))
       chances-sends v until′ until₂ y c g t le before =
           carried n now s₀ until s p p (8 * p + q) a hp until₂ p (8 * p + (q + 1)) y (ap (λ (z : Layout). z .stations) g)

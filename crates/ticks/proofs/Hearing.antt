@@ -8,6 +8,7 @@ use native.Mathlib.Omega.{arith}
 use lib.Dec.{ltb, eqb}
 use lib.ListN.{length, getD, take}
 use borrow.Author.Tests.{eqb-true, lt-ltb, le-ltb}
+use Rattle.election.specs.Heads.{hearing, expiring}
 use Rattle.lists.specs.Entries.{firsts}
 use Rattle.lists.specs.Fold.{each}
 use Rattle.lists.proofs.Bools.{both, cond-yes, cond-no, cond-elim}
@@ -17,45 +18,30 @@ use Rattle.station.specs.Order.{entry}
 use Rattle.station.specs.Limits.{lastTick, longest}
 use Rattle.station.specs.Rules.{expired}
 use Rattle.station.specs.declared.Station.{Station}
-use Rattle.election.specs.System.{noStation, noLink, messages, underway}
+use Rattle.election.specs.System.{noStation, noLink, messages, underway, withLinks, withStations}
 use Rattle.election.specs.Tick.{heardAll, expiredNow, settled}
 use Rattle.election.specs.declared.Message.{Message}
 use Rattle.election.specs.declared.System.{System}
 use Rattle.election.proofs.Steps.{heard-none, heardAll-unchanged, heardAll-timeouts}
-use Rattle.layout.proofs.Stores.{withLinks}
 use Rattle.ticks.specs.Sending.{Ticking, hears, timerEnds}
 use Rattle.ticks.proofs.Ready.{timeout-at, timer-at}
 
--- the system with other stations
-abbrev pub withStations : List Station → System → System
-withStations xs s =
-    record {
-      ready = s .ready;
-      n = s .n;
-      period = s .period;
-      tick = s .tick;
-      stations = xs;
-      sent = s .sent;
-      delays = s .delays;
-      links = s .links;
-    }
-
 -- the station at place p after the first q senders
 unfoldable pub heardFrom : System → ℕ → ℕ → Station
-heardFrom s p q = each q (λ k. hears (p + 1) (k + 1) (s .tick + 1) (underway s (k + 1) (p + 1))) (getD (s .stations) p noStation)
+heardFrom s p q = each q (λ k. hears (hearing s) (p + 1) (k + 1) (s .tick + 1) (underway s (k + 1) (p + 1))) (getD (s .stations) p noStation)
 
 -- the system whose first p stations are after (a) and (b)
 unfoldable pub settledTo : System → ℕ → System
 settledTo s p = withStations (firsts p (λ k. settled s (k + 1)) (s .stations)) s
 
 -- a station hears all or nothing
-hears-all : (me now : ℕ) (inbox : ℕ → List Message) (x : Station) (q : ℕ) → each q (λ k. hears me (k + 1) now (inbox (k + 1))) x ≡ cond (x .up) (heardAll q me now inbox x) x
+hears-all : (s : System) (me now : ℕ) (inbox : ℕ → List Message) (x : Station) (q : ℕ) → each q (λ k. hears (hearing s) me (k + 1) now (inbox (k + 1))) x ≡ cond (x .up) (heardAll (hearing s) q me now inbox x) x
 unfolding each heardAll hears
-hears-all me now inbox x zero = cond-elim (λ y. x ≡ y) (x .up) (λ u. refl) (λ u. refl)
-hears-all me now inbox x (suc q) = ap (hears me (q + 1) now (inbox (q + 1))) (hears-all me now inbox x q) ∙ go (x .up) refl
+hears-all s me now inbox x zero = cond-elim (λ y. x ≡ y) (x .up) (λ u. refl) (λ u. refl)
+hears-all s me now inbox x (suc q) = ap (hears (hearing s) me (q + 1) now (inbox (q + 1))) (hears-all s me now inbox x q) ∙ go (x .up) refl
   where
-    go : (b : Bool) → x .up ≡ b → hears me (q + 1) now (inbox (q + 1)) (cond b (heardAll q me now inbox x) x) ≡ cond b (heardAll (suc q) me now inbox x) x
-    go true u = cond-yes {b = heardAll q me now inbox x .up} _ _ (heardAll-unchanged q me now inbox x .up ∙ u)
+    go : (b : Bool) → x .up ≡ b → hears (hearing s) me (q + 1) now (inbox (q + 1)) (cond b (heardAll (hearing s) q me now inbox x) x) ≡ cond b (heardAll (hearing s) (suc q) me now inbox x) x
+    go true u = cond-yes {b = heardAll (hearing s) q me now inbox x .up} _ _ (heardAll-unchanged s q me now inbox x .up ∙ u)
     go false u = cond-no {b = x .up} _ _ u
 
 module _ (s : System) (p q : ℕ) where
@@ -64,19 +50,19 @@ module _ (s : System) (p q : ℕ) where
   now-at = getD (s .stations) p noStation
 
   all-heard : Station
-  all-heard = heardAll q (p + 1) (s .tick + 1) (λ j. underway s j (p + 1)) now-at
+  all-heard = heardAll (hearing s) q (p + 1) (s .tick + 1) (λ j. underway s j (p + 1)) now-at
 
   heard-is : heardFrom s p q ≡ cond (now-at .up) all-heard now-at
   unfolding heardFrom now-at all-heard
-  heard-is = hears-all (p + 1) (s .tick + 1) (λ j. underway s j (p + 1)) (getD (s .stations) p noStation) q
+  heard-is = hears-all s (p + 1) (s .tick + 1) (λ j. underway s j (p + 1)) (getD (s .stations) p noStation) q
 
   heardFrom-up : heardFrom s p q .up ≡ getD (s .stations) p noStation .up
   unfolding now-at all-heard
-  heardFrom-up = rw heard-is (cond-elim (λ (y : Station). y .up ≡ now-at .up) (now-at .up) (λ u. heardAll-unchanged q (p + 1) (s .tick + 1) (λ j. underway s j (p + 1)) now-at .up) (λ u. refl))
+  heardFrom-up = rw heard-is (cond-elim (λ (y : Station). y .up ≡ now-at .up) (now-at .up) (λ u. heardAll-unchanged s q (p + 1) (s .tick + 1) (λ j. underway s j (p + 1)) now-at .up) (λ u. refl))
 
   heardFrom-timeouts : heardFrom s p q .timeouts ≡ getD (s .stations) p noStation .timeouts
   unfolding now-at all-heard
-  heardFrom-timeouts = rw heard-is (cond-elim (λ (y : Station). y .timeouts ≡ now-at .timeouts) (now-at .up) (λ u. heardAll-timeouts q (p + 1) (s .tick + 1) (λ j. underway s j (p + 1)) now-at) (λ u. refl))
+  heardFrom-timeouts = rw heard-is (cond-elim (λ (y : Station). y .timeouts ≡ now-at .timeouts) (now-at .up) (λ u. heardAll-timeouts s q (p + 1) (s .tick + 1) (λ j. underway s j (p + 1)) now-at) (λ u. refl))
 
   heard-up : getD (s .stations) p noStation .up ≡ true → heardFrom s p q ≡ all-heard
   unfolding now-at
@@ -93,7 +79,7 @@ module _ (s : System) (p : ℕ) (e : Station) (h : e ≡ heardFrom s p (s .n)) w
   settled-is =
       let z : p ≡ p + 1 - 1 = omega arith in
       go (getD (s .stations) p noStation .up) refl
-      ∙ ap (λ k. let x : Station = getD (s .stations) k noStation in cond (x .up) (expiredNow (p + 1) (s .tick + 1) (heardAll (s .n) (p + 1) (s .tick + 1) (λ j. underway s j (p + 1)) x)) x) z
+      ∙ ap (λ k. let x : Station = getD (s .stations) k noStation in cond (x .up) (expiredNow (expiring s (p + 1)) (s .tick + 1) (heardAll (hearing s) (s .n) (p + 1) (s .tick + 1) (λ j. underway s j (p + 1)) x)) x) z
     where
       all : Station
       all = all-heard s p (s .n)
@@ -122,19 +108,19 @@ module _ (s : System) (p q : ℕ) where
       let b : q + 1 - 1 ≡ q = omega arith in
       rw (a, b)
 
-  heardFrom-next : (now : ℕ) (x v : Station) → now ≡ s .tick + 1 → x ≡ heardFrom s p q → v ≡ hears (p + 1) (q + 1) now (messages (getD (s .links) (8 * q + p) noLink)) x → v ≡ heardFrom s p (q + 1)
+  heardFrom-next : (now : ℕ) (x v : Station) → now ≡ s .tick + 1 → x ≡ heardFrom s p q → v ≡ hears (hearing s) (p + 1) (q + 1) now (messages (getD (s .links) (8 * q + p) noLink)) x → v ≡ heardFrom s p (q + 1)
   unfolding heardFrom
   heardFrom-next now x v c e g =
       each-turn q _ _ (heardFrom s p q) v refl
-      (g ∙ ap (λ n. hears (p + 1) (q + 1) n (messages (getD (s .links) (8 * q + p) noLink)) x) c ∙ ap (λ x. hears (p + 1) (q + 1) (s .tick + 1) (messages (getD (s .links) (8 * q + p) noLink)) x) e
-      ∙ ap (λ ms. hears (p + 1) (q + 1) (s .tick + 1) ms (heardFrom s p q)) inbox)
+      (g ∙ ap (λ n. hears (hearing s) (p + 1) (q + 1) n (messages (getD (s .links) (8 * q + p) noLink)) x) c ∙ ap (λ x. hears (hearing s) (p + 1) (q + 1) (s .tick + 1) (messages (getD (s .links) (8 * q + p) noLink)) x) e
+      ∙ ap (λ ms. hears (hearing s) (p + 1) (q + 1) (s .tick + 1) ms (heardFrom s p q)) inbox)
 
   -- with no message, nothing changes
   heardFrom-none : getD (s .links) (8 * q + p) noLink .used ≡ 0 → heardFrom s p q ≡ heardFrom s p (q + 1)
   unfolding heardFrom hears messages
   heardFrom-none z =
       each-turn q _ _ (heardFrom s p q) (heardFrom s p q) refl
-      (sym (cond-elim (λ x. x ≡ heardFrom s p q) (heardFrom s p q .up) (λ u. heard-none (p + 1) (q + 1) (s .tick + 1) (underway s (q + 1) (p + 1)) (heardFrom s p q) (sym inbox ∙ ap (λ u. take u (getD (s .links) (8 * q + p) noLink .messages)) z)) (λ u. refl)))
+      (sym (cond-elim (λ x. x ≡ heardFrom s p q) (heardFrom s p q .up) (λ u. heard-none (hearing s) (p + 1) (q + 1) (s .tick + 1) (underway s (q + 1) (p + 1)) (heardFrom s p q) (sym inbox ∙ ap (λ u. take u (getD (s .links) (8 * q + p) noLink .messages)) z)) (λ u. refl)))
 
 -- in s the first p of n stations have heard one sender more than the first q senders of r, the others just those
 pub record Hearing (r : System) (n p q : ℕ) (s : System) : Type 0 where
@@ -170,7 +156,7 @@ module _ (r : System) (n p q : ℕ) (s : System) (a : Hearing r n p q s) where
   -- a receiver more
   module _ (hp : p < n) where
     pub hearing-turn : (y : System) (now : ℕ) → withLinks (r .links) y ≡ withStations (y .stations) r → length (y .stations) ≡ 8 → ((j : ℕ) → (j ≡ p → ⊥) → getD (y .stations) j noStation ≡ getD (s .stations) j noStation)
-        → now ≡ r .tick + 1 → getD (y .stations) p noStation ≡ hears (p + 1) (q + 1) now (messages (getD (r .links) (8 * q + p) noLink)) (getD (s .stations) p noStation) → Hearing r n (p + 1) q y
+        → now ≡ r .tick + 1 → getD (y .stations) p noStation ≡ hears (hearing r) (p + 1) (q + 1) now (messages (getD (r .links) (8 * q + p) noLink)) (getD (s .stations) p noStation) → Hearing r n (p + 1) q y
     hearing-turn y now e l f c g =
         record {
           same = e;

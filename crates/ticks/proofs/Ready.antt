@@ -8,6 +8,7 @@ use native.Mathlib.Omega.{arith}
 use lib.Dec.{eqb}
 use lib.ListN.{getD}
 use borrow.Author.Tests.{eqb-true}
+use Rattle.election.specs.Heads.{hearing}
 use Rattle.lists.specs.Fold.{each}
 use Rattle.lists.proofs.Bools.{both, three, five}
 use Rattle.station.specs.Order.{entry}
@@ -19,8 +20,8 @@ use Rattle.fit.proofs.Keeps.{during-expires}
 use Rattle.fit.proofs.Safe.{expire-safe}
 use Rattle.fit.proofs.Tests.{Timeouts, timeouts-of, fit-of, fit-down}
 use Rattle.election.specs.Sound.{emptyPlace}
-use Rattle.election.specs.System.{noStation, noLink, station, place, underway}
-use Rattle.election.specs.Tick.{heardLink, heardAll}
+use Rattle.election.specs.System.{noStation, noLink, station, place, underway, places}
+use Rattle.election.specs.Tick.{heardLink, heardAll, heardBy}
 use Rattle.election.specs.declared.Link.{Link}
 use Rattle.election.specs.declared.System.{System}
 use Rattle.election.proofs.Places.{In, seat-in, widen, place-in, from-place, to-place}
@@ -67,10 +68,10 @@ module _ (s : System) (t : Ticking s) where
   timeouts-low p q ip iq = fit-timeouts p (s .n) (s .period) (s .tick) (station s p) (is .tick-high) (is .fits p ip) (q - 1) (omega (arith, iq .low, iq .high, is .n-high))
 
   -- a link of the system has at most four messages
-  few-used : (q p : ℕ) → In (s .n) q → In (s .n) p → getD (s .links) (place q p) noLink .used ≤ 4
+  few-used : (q p : ℕ) → In (s .n) q → In (s .n) p → getD (s .links) (place q p) noLink .used ≤ places
   few-used q p iq ip = go (ℕ-discrete q p)
     where
-      go : Dec (q ≡ p) → getD (s .links) (place q p) noLink .used ≤ 4
+      go : Dec (q ≡ p) → getD (s .links) (place q p) noLink .used ≤ places
       go (no ne) = is .linked q p iq ip ne .few
       go (yes e) =
           let w : In 8 p = widen (s .n) p (is .n-high) ip in
@@ -78,7 +79,7 @@ module _ (s : System) (t : Ticking s) where
           rw e (omega arith)
 
   -- a timer that is due after (a) can end
-  timer-safe : (p : ℕ) → In (s .n) p → station s p .up ≡ true → (x : Station) → x ≡ heardAll (s .n) p (s .tick + 1) (λ q. underway s q p) (station s p)
+  timer-safe : (p : ℕ) → In (s .n) p → station s p .up ≡ true → (x : Station) → x ≡ heardBy s p (station s p)
       → x .timer ≡ s .tick + 1 → (1 ≤ x .leader) × (x .leader ≤ 8) × (entry (x .timeouts) (x .leader) ≤ longest lastTick)
   timer-safe p ip u x e d = expire-safe p (s .n) (s .period) (s .tick + 1) x (during-expires p (s .n) (s .period) (s .tick + 1) x (rw e (heard-timely s is (t .room) p ip u)) d)
 
@@ -90,7 +91,7 @@ module _ (s : System) (t : Ticking s) (p q : ℕ) (hp : p < s .n) (hq : q < s .n
   iq : In (s .n) (q + 1)
   iq = seat-in (s .n) q hq
 
-  pub used-at : getD (s .links) (8 * q + p) noLink .used ≤ 4
+  pub used-at : getD (s .links) (8 * q + p) noLink .used ≤ places
   used-at =
       let a : p + 1 - 1 ≡ p = omega arith in
       let b : q + 1 - 1 ≡ q = omega arith in
@@ -101,12 +102,12 @@ module _ (s : System) (t : Ticking s) (p q : ℕ) (hp : p < s .n) (hq : q < s .n
       let a : p + 1 - 1 ≡ p = omega arith in
       rw e (rw a at (timeouts-low s t (p + 1) (q + 1) ip iq))
 
-  pub timer-at : (x : Station) → x ≡ each (s .n) (λ k. heardLink (p + 1) (k + 1) (s .tick + 1) (underway s (k + 1) (p + 1))) (getD (s .stations) p noStation)
+  pub timer-at : (x : Station) → x ≡ each (s .n) (λ k. heardLink (hearing s) (p + 1) (k + 1) (s .tick + 1) (underway s (k + 1) (p + 1))) (getD (s .stations) p noStation)
       → getD (s .stations) p noStation .up ≡ true → x .timer ≡ s .tick + 1 → (1 ≤ x .leader) × (x .leader ≤ 8) × (entry (x .timeouts) (x .leader) ≤ longest lastTick)
   unfolding heardAll
   timer-at x e u d =
       let a : p + 1 - 1 ≡ p = omega arith in
-      timer-safe s t (p + 1) ip (rw a u) x (e ∙ ap (each (s .n) (λ k. heardLink (p + 1) (k + 1) (s .tick + 1) (underway s (k + 1) (p + 1)))) (ap (λ z. getD (s .stations) z noStation) (sym a))) d
+      timer-safe s t (p + 1) ip (rw a u) x (e ∙ ap (each (s .n) (λ k. heardLink (hearing s) (p + 1) (k + 1) (s .tick + 1) (underway s (k + 1) (p + 1)))) (ap (λ z. getD (s .stations) z noStation) (sym a))) d
 
 -- a sent count has room for one more sending
 pub sent-at : (s : System) → Ticking s → (k : ℕ) → k < s .n → (1 ≤ s .n) × (s .n ≤ 8) × (getD (s .sent) k 0 ≤ 7000000)

@@ -4,7 +4,8 @@ use mathlib.Core.Bool.{true}
 use Prim.Native.Nat.{ℕ, zero, suc, _+_, _-_, _<_, _≤_}
 use native.Mathlib.Omega.{arith}
 use Rattle.station.specs.Limits.{lastTick}
-use Rattle.election.specs.Idle.{quietAt, atTick, Held}
+use Rattle.election.specs.Idle.{quietAt, Held}
+use Rattle.election.specs.System.{atTick}
 use Rattle.election.specs.Sound.{sound}
 use Rattle.election.specs.Tick.{tick, ticks}
 use Rattle.election.specs.declared.System.{System}

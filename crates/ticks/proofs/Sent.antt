@@ -6,7 +6,7 @@ use Prim.Native.Nat.{ℕ, _+_, _*_, _<_, _≤_}
 use native.Mathlib.Omega.{arith}
 use lib.Dec.{eqb}
 use lib.ListN.{length, getD, set}
-use Rattle.election.specs.System.{noStation, noLink, messages, holding}
+use Rattle.election.specs.System.{noStation, noLink, messages, holding, places}
 use Rattle.election.specs.declared.Message.{Message}
 use Rattle.election.specs.declared.System.{System}
 use Rattle.layout.specs.Layout.{systemOf}
@@ -28,13 +28,13 @@ module _ (n now : ℕ) (m : System) (until : ℕ) (x : Layout) (p q : ℕ) (hp :
   held : holding (messages (getD (systemOf x .links) (8 * p + q) noLink)) ≡ getD (systemOf x .links) (8 * p + q) noLink
   held = sent-held n now m until (systemOf x) p hp q hq a d ed test sends counts ec
 
-  room : length (messages (getD (systemOf x .links) (8 * p + q) noLink) ++ (message ∷ [])) ≤ 4
+  room : length (messages (getD (systemOf x .links) (8 * p + q) noLink) ++ (message ∷ [])) ≤ places
   room = sent-room n now m until (systemOf x) p hp q hq a d ed test sends counts ec
 
-  pub place-free : u < 4
+  pub place-free : u < places
   place-free = sent-place x (8 * p + q) u wide hk e held message room
 
-  pub message-sent : (v until′ until₂ : ℕ) (y : Layout) → v ≡ u + 1 → y ≡ withUsed (set (x .used) (8 * p + q) v) (withMessages (set (x .messages) (4 * (8 * p + q) + u) message) x) → until₂ ≡ until′ → until′ ≤ until
+  pub message-sent : (v until′ until₂ : ℕ) (y : Layout) → v ≡ u + 1 → y ≡ withUsed (set (x .used) (8 * p + q) v) (withMessages (set (x .messages) (places * (8 * p + q) + u) message) x) → until₂ ≡ until′ → until′ ≤ until
       → Before now (now + d) until′ → Part n now m until₂ (systemOf y) p p (8 * p + (q + 1))
   message-sent v until′ until₂ y c g t le before =
       part-next n now m until (systemOf x) p hp q hq a d ed test sends counts ec until′ until₂ (holding (messages (getD (systemOf x .links) (8 * p + q) noLink) ++ (message ∷ []))) (systemOf y) refl

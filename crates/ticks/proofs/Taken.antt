@@ -7,19 +7,20 @@ use native.Mathlib.Decide.{decLt, ℕ-discrete}
 use native.Mathlib.Omega.{arith}
 use lib.ListN.{length, getD, set, take, length-set}
 use lib.Seq.{getD-set-same, getD-set-other}
+use Rattle.election.specs.Heads.{hearing}
 use Rattle.lists.specs.Test.{allTo}
 use Rattle.layout.specs.Layout.{systemOf}
 use Rattle.layout.specs.declared.Layout.{Layout}
-use Rattle.layout.proofs.Stores.{Wide, part, length-links, withUsed, withStations, withLinks, Clearing, used-read, messages-read}
+use Rattle.layout.proofs.Stores.{Wide, part, length-links, withUsed, withStations, Clearing, used-read, messages-read}
+use Rattle.election.specs.System.{withLinks, noStation, noLink, from, to, messages, holding, isLink, places}
 use Rattle.election.specs.Idle.{quietLink, Held}
-use Rattle.election.specs.System.{noStation, noLink, from, to, messages, holding, isLink}
 use Rattle.election.specs.Tick.{later}
 use Rattle.election.specs.declared.Link.{Link}
 use Rattle.election.specs.declared.System.{System}
 use Rattle.ticks.specs.Sending.{Ticking, hears}
 use Rattle.ticks.proofs.After.{no-sender, no-receiver, linked, self}
 use Rattle.ticks.proofs.Hearing.{Hearing, hearing-turn, hearing-skips}
-use Rattle.ticks.proofs.Hearing as hearing
+use Rattle.election.specs.System as system
 use Rattle.ticks.proofs.InPlace.{Packing, Heard, Beside, kept-stored, kept-calm}
 use Rattle.ticks.proofs.Ready.{is, used-at, unused-self}
 
@@ -120,7 +121,7 @@ module _ (n now : ℕ) (r : System) (until : ℕ) (ls : List Link) (p q : ℕ) (
   taken-old : getD ls (8 * q + p) noLink ≡ getD (r .links) (8 * q + p) noLink
   taken-old = a .rest (8 * q + p) (omega arith) (omega arith)
 
-  pub taken-few : getD ls (8 * q + p) noLink .used ≤ 4
+  pub taken-few : getD ls (8 * q + p) noLink .used ≤ places
   taken-few = rw taken-old (used-at r (a .ticking) p q (rw (a .size) hp) (rw (a .size) hq))
 
   -- a link with no message
@@ -170,7 +171,7 @@ module _ (n now : ℕ) (r : System) (until : ℕ) (ls : List Link) (p q : ℕ) (
 
 -- a link gone through in place
 module _ (n now p q : ℕ) (hn : n ≤ 8) (hp : p < n) (hq : q < n) (x s₁ s₂ : Layout) (until₁ to u : ℕ) (pack : Packing now (8 * q + p) x s₁ until₁ to u) (clear : Clearing (8 * q + p) s₁ s₂ to u)
-    (wide : Wide x) (few : u ≤ 4) (e : u ≡ getD (x .used) (8 * q + p) 0) (y : Layout) (f : y ≡ withUsed (set (s₂ .used) (8 * q + p) to) s₂) where
+    (wide : Wide x) (few : u ≤ places) (e : u ≡ getD (x .used) (8 * q + p) 0) (y : Layout) (f : y ≡ withUsed (set (s₂ .used) (8 * q + p) to) s₂) where
   used-is : s₂ .used ≡ x .used
   used-is = ap (λ (z : Layout). z .used) (clear .same) ∙ ap (λ (z : Layout). z .used) (pack .same)
 
@@ -205,14 +206,14 @@ module _ (n now p q : ℕ) (hn : n ≤ 8) (hp : p < n) (hq : q < n) (x s₁ s₂
         (taken-stores n now r until (systemOf x .links) p q hn hp hq a read-some until₁ (length-links (x .used) (x .messages)) le
         (kept-calm now (8 * q + p) x s₁ s₂ until₁ to u pack clear wide k-low few e held-at)))
 
-    pub link-heard : Hearing r n p q (systemOf x) → now ≡ r .tick + 1 → Heard (p + 1) (q + 1) now (part (x .messages) (8 * q + p)) (getD (x .stations) p noStation) (getD (s₁ .stations) p noStation) u
+    pub link-heard : Hearing r n p q (systemOf x) → now ≡ r .tick + 1 → Heard (systemOf x) (p + 1) (q + 1) now (part (x .messages) (8 * q + p)) (getD (x .stations) p noStation) (getD (s₁ .stations) p noStation) u
         → Beside p (x .stations) (s₁ .stations) → Hearing r n (p + 1) q (systemOf y)
     link-heard b tick h side =
         hearing-turn r n p q (systemOf x) b hp (systemOf y) now
-        (ap (withLinks (r .links)) stored ∙ ap (λ (w : System). hearing.withStations (s₁ .stations) w) (b .same) ∙ ap (λ xs. hearing.withStations xs r) (sym stations-are))
+        (ap (withLinks (r .links)) stored ∙ ap (λ (w : System). system.withStations (s₁ .stations) w) (b .same) ∙ ap (λ xs. system.withStations xs r) (sym stations-are))
         (ap length stations-are ∙ side .long ∙ b .long) (λ j ne. ap (λ xs. getD xs j noStation) stations-are ∙ side .others j ne) tick
         (ap (λ xs. getD xs p noStation) stations-are ∙ h .is
-        ∙ ap (λ ms. hears (p + 1) (q + 1) now ms (getD (x .stations) p noStation)) (sym (messages-read x (8 * q + p) k-low u e) ∙ ap messages (taken-old n now r until (systemOf x .links) p q hn hp hq a)))
+        ∙ ap (λ ms. hears (hearing r) (p + 1) (q + 1) now ms (getD (x .stations) p noStation)) (sym (messages-read x (8 * q + p) k-low u e) ∙ ap messages (taken-old n now r until (systemOf x .links) p q hn hp hq a)))
 
 -- one passed over
 pub none-heard : (n now : ℕ) (r : System) (until : ℕ) (x : Layout) (p q : ℕ) → n ≤ 8 → p < n → q < n → Taken n now r until (systemOf x .links) (8 * q + p) → Hearing r n p q (systemOf x)

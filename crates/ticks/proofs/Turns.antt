@@ -8,27 +8,27 @@ use native.Mathlib.Omega.{arith}
 use lib.Dec.{eqb}
 use lib.ListN.{length, getD, take, set, replicate, length-append}
 use borrow.Author.Tests.{eq-eqb, ne-eqb}
+use Rattle.election.specs.Heads.{Hearing}
 use Rattle.lists.specs.Entries.{over}
 use Rattle.lists.specs.Filter.{whereTo}
 use Rattle.lists.proofs.Entries.{over-snoc}
 use lib.Seq.{take-suc}
-use Rattle.station.specs.Rules.{heard}
 use Rattle.station.specs.declared.Station.{Station}
-use Rattle.election.specs.System.{noMessage, unused, messages, holding}
+use Rattle.election.specs.System.{noMessage, unused, messages, holding, places}
 use Rattle.election.specs.Tick.{heardLink, later}
 use Rattle.election.specs.declared.Message.{Message}
 
 -- one message more is heard
-heardLink-snoc : (me q now : ℕ) (ms : List Message) (m : Message) (x : Station) → heardLink me q now (ms ++ (m ∷ [])) x ≡ cond (eqb (m .due) now) (heard me q (m .counts) now (heardLink me q now ms x)) (heardLink me q now ms x)
+heardLink-snoc : (hear : Hearing) (me q now : ℕ) (ms : List Message) (m : Message) (x : Station) → heardLink hear me q now (ms ++ (m ∷ [])) x ≡ cond (eqb (m .due) now) (hear me q m now (heardLink hear me q now ms x)) (heardLink hear me q now ms x)
 unfolding heardLink
-heardLink-snoc me q now [] m x = refl
-heardLink-snoc me q now (a ∷ ms) m x = heardLink-snoc me q now ms m _
+heardLink-snoc hear me q now [] m x = refl
+heardLink-snoc hear me q now (a ∷ ms) m x = heardLink-snoc hear me q now ms m _
 
-pub heardLink-turn : (me q now : ℕ) (ms : List Message) (k : ℕ) (x r r′ : Station) → k < length ms → r ≡ heardLink me q now (take k ms) x
-    → r′ ≡ cond (eqb (getD ms k noMessage .due) now) (heard me q (getD ms k noMessage .counts) now r) r → r′ ≡ heardLink me q now (take (k + 1) ms) x
-heardLink-turn me q now ms k x r r′ h e g =
-    g ∙ ap (λ (z : Station). cond (eqb (getD ms k noMessage .due) now) (heard me q (getD ms k noMessage .counts) now z) z) e
-    ∙ sym (heardLink-snoc me q now (take k ms) (getD ms k noMessage) x) ∙ ap (λ l. heardLink me q now l x) (sym (take-suc ms k noMessage h) ∙ ap (λ n. take n ms) (sym (add-one k)))
+pub heardLink-turn : (hear : Hearing) (me q now : ℕ) (ms : List Message) (k : ℕ) (x r r′ : Station) → k < length ms → r ≡ heardLink hear me q now (take k ms) x
+    → r′ ≡ cond (eqb (getD ms k noMessage .due) now) (hear me q (getD ms k noMessage) now r) r → r′ ≡ heardLink hear me q now (take (k + 1) ms) x
+heardLink-turn hear me q now ms k x r r′ h e g =
+    g ∙ ap (λ (z : Station). cond (eqb (getD ms k noMessage .due) now) (hear me q (getD ms k noMessage) now z) z) e
+    ∙ sym (heardLink-snoc hear me q now (take k ms) (getD ms k noMessage) x) ∙ ap (λ l. heardLink hear me q now l x) (sym (take-suc ms k noMessage h) ∙ ap (λ n. take n ms) (sym (add-one k)))
 
 -- one message more is kept, or left out
 later-snoc : (now : ℕ) (ms : List Message) (m : Message) → later now (ms ++ (m ∷ [])) ≡ later now ms ++ cond (eqb (m .due) now) [] (m ∷ [])
@@ -69,9 +69,9 @@ pub goes : (now : ℕ) (m : Message) → m .due ≡ now → not (eqb (m .due) no
 goes now m e = rw (eq-eqb (m .due) now e)
 
 -- a link that holds up to three messages takes one more
-pub holding-more : (ms : List Message) (m : Message) → length (ms ++ (m ∷ [])) ≤ 4 → record { used = holding ms .used + 1; messages = set (holding ms .messages) (holding ms .used) m } ≡ holding (ms ++ (m ∷ []))
+pub holding-more : (ms : List Message) (m : Message) → length (ms ++ (m ∷ [])) ≤ places → record { used = holding ms .used + 1; messages = set (holding ms .messages) (holding ms .used) m } ≡ holding (ms ++ (m ∷ []))
 unfolding holding
 holding-more ms m room =
-    let e : set (over ms (replicate 4 unused)) (length ms) m ≡ over (ms ++ (m ∷ [])) (replicate 4 unused) =
-    over-snoc ms (replicate 4 unused) (over ms (replicate 4 unused)) (length ms) m refl (omega (arith, length-append ms (m ∷ []))) refl in
+    let e : set (over ms (replicate places unused)) (length ms) m ≡ over (ms ++ (m ∷ [])) (replicate places unused) =
+    over-snoc ms (replicate places unused) (over ms (replicate places unused)) (length ms) m refl (omega (arith, length-append ms (m ∷ []))) refl in
     rw (e, length-append)

@@ -8,19 +8,19 @@ use native.Mathlib.Omega.{arith}
 use lib.Dec.{ltb}
 use lib.ListN.{length, getD, length-append}
 use borrow.Author.Tests.{lt-ltb, le-ltb}
+use Rattle.election.specs.Heads.{slotting}
 use Rattle.lists.proofs.Entries.{upTo-same, firsts-get, firsts-beyond, firsts-cond, firsts-idle, length-firsts}
 use Rattle.lists.proofs.Test.{all-of}
 use Rattle.lists.specs.Test.{allTo}
 use Rattle.station.specs.declared.Station.{Station}
-use Rattle.election.specs.Idle.{quietStation, quietLink, quietAt, atTick, Held}
-use Rattle.election.specs.System.{noStation, noLink, station, place, from, to, messages, holding, isLink}
-use Rattle.election.specs.Tick.{slottedNow, settled, sending, later, sent, underwayAfter, tick}
+use Rattle.election.specs.Idle.{quietStation, quietLink, quietAt, Held}
+use Rattle.election.specs.System.{atTick, noStation, noLink, station, place, from, to, messages, holding, isLink, withLinks, renewed, places}
+use Rattle.election.specs.Tick.{slottedNow, settled, sending, later, sent, underwayAfter, tick, seatNext}
 use Rattle.election.specs.declared.Link.{Link}
 use Rattle.election.specs.declared.System.{System}
 use Rattle.election.proofs.Places.{tick-n, messages-holding}
 use Rattle.election.proofs.Soundness.{link-of, place-of}
 use Rattle.election.proofs.TickSound.{after-few}
-use Rattle.layout.proofs.Stores.{withLinks}
 use Rattle.ticks.specs.Sending.{Ticking, sentOver, sendsNow}
 use Rattle.ticks.proofs.After.{no-sender, unlinked, linked, sendsAt, stationAfter, sentAfter, newLink, linkAfter, sentTo, Mid, Part, part-none}
 use Rattle.ticks.proofs.Hearing.{settledTo, Hearing, endedTo, settled-all}
@@ -55,12 +55,12 @@ module _ (s : System) (ticking : Ticking s) (held : Held s) (ls : List Link) (lo
 
   -- what a link holds is what was not due
   module _ (k : ℕ) (h : k < 64) (i : isLink (s .n) (from k) (to k) ≡ true) where
-    link-few : length (underwayAfter s (from k) (to k)) ≤ 4
+    link-few : length (underwayAfter s (from k) (to k)) ≤ places
     link-few = let (hp, hq, ne) = link-of (s .n) (from k) (to k) (omega arith) (omega arith) i in after-few s (is s ticking) (ticking .room) (from k) (to k) hp hq ne
 
-    kept-few : length (later (s .tick + 1) (messages (getD (s .links) k noLink))) ≤ 4
+    kept-few : length (later (s .tick + 1) (messages (getD (s .links) k noLink))) ≤ places
     kept-few =
-        subst (λ x. length (later (s .tick + 1) (messages (getD (s .links) x noLink))) ≤ 4) (place-of k h)
+        subst (λ x. length (later (s .tick + 1) (messages (getD (s .links) x noLink))) ≤ places) (place-of k h)
         (omega (arith, link-few, length-append (later (s .tick + 1) (messages (getD (s .links) (place (from k) (to k)) noLink))) (sent s (from k) (to k))))
 
     kept-is : getD ls k noLink ≡ holding (later (s .tick + 1) (messages (getD (s .links) k noLink)))
@@ -96,8 +96,8 @@ module _ (s : System) (ticking : Ticking s) (held : Held s) (ls : List Link) (lo
             let h : 8 * p + q < 64 = omega (arith, is s ticking .n-high) in
             let z : (8 * p + q) / 8 ≡ p = omega (arith, is s ticking .n-high) in
             let i : isLink (s .n) (from (8 * p + q)) (to (8 * p + q)) ≡ true = linked (s .n) p q (is s ticking .n-high) hp hq ne in
-            subst (λ j. length (messages (getD ls (8 * p + q) noLink) ++ sentOver (s .tick + 1) (sendsAt (s .tick + 1) mid j) (getD (s .delays) (8 * p + q) 0) (getD (mid .stations) j noStation .recovered)) ≤ 4) z
-            (subst (λ ms. length ms ≤ 4) (sym (after-is (8 * p + q) h i)) (link-few (8 * p + q) h i));
+            subst (λ j. length (messages (getD ls (8 * p + q) noLink) ++ sentOver (s .tick + 1) (sendsAt (s .tick + 1) mid j) (getD (s .delays) (8 * p + q) 0) (getD (mid .stations) j noStation .recovered)) ≤ places) z
+            (subst (λ ms. length ms ≤ places) (sym (after-is (8 * p + q) h i)) (link-few (8 * p + q) h i));
         held = λ k h i. subst (λ l. holding (messages l) ≡ l) (sym (kept-is k h i)) (ap holding (messages-holding (later (s .tick + 1) (messages (getD (s .links) k noLink))) (kept-few k h i)));
       }
 
@@ -110,8 +110,8 @@ module _ (s : System) (ticking : Ticking s) (held : Held s) (ls : List Link) (lo
       firsts-cond (s .n) 8 (stationAfter now mid) (mid .stations) noStation mid-long (is s ticking .n-high)
       ∙ upTo-same 8 _ _ (λ k h. go k (decLt k (s .n)))
     where
-      go : (k : ℕ) → Dec (k < s .n) → cond (ltb k (s .n)) (stationAfter now mid k) (getD (mid .stations) k noStation) ≡ cond (ltb k (s .n)) (slottedNow (s .period) (s .tick + 1) (settled s (k + 1))) (getD (s .stations) k noStation)
-      go k (yes l) = rw (lt-ltb k (s .n) l) (ap (slottedNow (s .period) (s .tick + 1)) (mid-at k l))
+      go : (k : ℕ) → Dec (k < s .n) → cond (ltb k (s .n)) (stationAfter now mid k) (getD (mid .stations) k noStation) ≡ seatNext s k
+      go k (yes l) = rw (lt-ltb k (s .n) l) (ap (slottedNow (slotting s (s .tick + 1)) (s .tick + 1)) (mid-at k l))
       go k (no l) = rw (le-ltb k (s .n) (omega arith)) (mid-beyond k (omega arith))
 
   sent-done : done .sent ≡ tick s .sent
@@ -142,16 +142,7 @@ module _ (s : System) (ticking : Ticking s) (held : Held s) (ls : List Link) (lo
   unfolding atTick tick sentTo settledTo done mid now
   whole-tick r e until =
       ap (atTick until) e
-      ∙ (λ i. record {
-        ready = s .ready;
-        n = s .n;
-        period = s .period;
-        tick = until;
-        stations = stations-done i;
-        sent = sent-done i;
-        delays = s .delays;
-        links = links-done i;
-      })
+      ∙ (λ i. renewed until (stations-done i) (sent-done i) (s .delays) (links-done i) s)
 
   -- and nothing is due up to where the parts are calm
   module _ (r : System) (until : ℕ) (a : Part (s .n) (s .tick + 1) (withLinks ls (settledTo s (s .n))) until r (s .n) (s .n) (8 * s .n)) (t : ℕ) (h : s .tick + 1 < t) (i : t ≤ until) where

@@ -6,6 +6,7 @@ use Prim.Native.Nat.{ℕ, _+_, _<_}
 use lib.Dec.{eqb}
 use Rattle.station.specs.Limits.{lastTick}
 use Rattle.station.specs.declared.Station.{Station}
+use Rattle.election.specs.Heads.{Hearing}
 use Rattle.election.specs.Sound.{sound}
 use Rattle.election.specs.Tick.{heardLink}
 use Rattle.election.specs.declared.Message.{Message}
@@ -18,8 +19,8 @@ pub record Ticking (s : System) : Type 0 where
   pub room : s .tick < lastTick
 
 -- a station that is up hears the messages of a link that are due now
-unfoldable pub hears : ℕ → ℕ → ℕ → List Message → Station → Station
-hears me q now ms x = cond (x .up) (heardLink me q now ms x) x
+unfoldable pub hears : Hearing → ℕ → ℕ → ℕ → List Message → Station → Station
+hears hear me q now ms x = cond (x .up) (heardLink hear me q now ms x) x
 
 -- the timer of a station that is up is due now
 abbrev pub timerEnds : ℕ → Station → Bool

@@ -13,6 +13,7 @@ use crate::steps::sends_now;
 use crate::steps::sent_more;
 use crate::steps::timer_ends;
 use election::Message;
+use election::PLACES;
 use layout::Layout;
 use layout::rules::unused;
 use station::rules::expire;
@@ -62,15 +63,15 @@ pub fn run(t: u32, mut s: Layout) -> Layout
                     if u != 0 {
                         let mut to = 0usize;
                         for i in 0..u {
-                            let due = s.messages[4 * k + i].due;
+                            let due = s.messages[PLACES * k + i].due;
                             if due != now {
                                 until = short_of(now, due, until);
-                                s.messages[4 * k + to] = s.messages[4 * k + i];
+                                s.messages[PLACES * k + to] = s.messages[PLACES * k + i];
                                 to += 1;
                                 more = true;
                             } else {
                                 if s.stations[p].up {
-                                    let m = s.messages[4 * k + i];
+                                    let m = s.messages[PLACES * k + i];
                                     let v = m.counts;
                                     s.stations[p] = hear(
                                         p as u8 + 1,
@@ -83,7 +84,7 @@ pub fn run(t: u32, mut s: Layout) -> Layout
                             }
                         }
                         for j in to..u {
-                            s.messages[4 * k + j] = empty;
+                            s.messages[PLACES * k + j] = empty;
                         }
                         s.used[k] = to as u8;
                     }
@@ -106,7 +107,7 @@ pub fn run(t: u32, mut s: Layout) -> Layout
                         if (p != q) & (d != 0) {
                             let u = count(s.used[k]);
                             let due = now + d;
-                            s.messages[4 * k + u] = Message {
+                            s.messages[PLACES * k + u] = Message {
                                 sent: now,
                                 due,
                                 counts,

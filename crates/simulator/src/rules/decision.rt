@@ -13,6 +13,7 @@ ghost use Rattle.election.specs.declared.System.{System};
 ghost use Rattle.simulator.specs.Decided.{Sees, decided, meaning};
 use crate::widths::width;
 use election::Refusal;
+use fit::LONGEST_DELAY;
 use station::Station;
 
 // A command that is turned down, or taken with its operands.
@@ -95,7 +96,7 @@ fn crash(ready: bool, n: u8, x: Station, p: u8) -> Decision
     Decision::Crash(p)
 }
 
-// A link gets a delay of at most 64.
+// A link gets a delay of at most the longest.
 fn link(ready: bool, n: u8, from: u8, to: u8, delay: u8) -> Decision
     ensures { λ r. ⌜ ((s : System) → s .ready ≡ ready → s .n ≡ n → meaning r ≡ decided (firstFailed (tests s (Link from to delay))) (Link from to delay)) ⌝ }
 {
@@ -109,7 +110,7 @@ fn link(ready: bool, n: u8, from: u8, to: u8, delay: u8) -> Decision
         return Decision::Refused(Refusal::SameStation);
     }
     match delay {
-        0..=64 => Decision::Link { from, to, delay },
+        0..=LONGEST_DELAY => Decision::Link { from, to, delay },
         _ => Decision::Refused(Refusal::DelayRange),
     }
 }

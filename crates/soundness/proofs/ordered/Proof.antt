@@ -3,6 +3,7 @@ use mathlib.Core.Path.{_≡_, sym}
 use mathlib.Core.Bool.{true}
 use Prim.Native.Nat.{_-_, _≤_}
 use native.Mathlib.Omega.{arith}
+use Rattle.election.specs.System.{places}
 use Rattle.lists.proofs.Bools.{holds, fails}
 use Rattle.lists.specs.Test.{allTo}
 use Rattle.lists.proofs.Test.{all-none, all-turn, all-not}
@@ -15,10 +16,10 @@ use Rattle.soundness.proofs.ordered.Lts as lts
 use Rattle.soundness.proofs.spaced.Reads as spaced-reads
 
 abbrev Inv-loop : tie.InvT-loop
-Inv-loop period l k₀ k = (k ≤ 4) × (allTo k (spaced period l) ≡ true)
+Inv-loop period l k₀ k = (k ≤ places) × (allTo k (spaced period l) ≡ true)
 
 abbrev μ-loop : tie.MeasureT-loop
-μ-loop period l k₀ k = 4 - k
+μ-loop period l k₀ k = places - k
 
 loop-holds : tie.Need-loop-holds Inv-loop μ-loop
 loop-holds c = (search needs, all-none _)
@@ -27,7 +28,7 @@ spaced-requires : tie.Need-spaced-requires Inv-loop μ-loop
 spaced-requires c κs = search needs
 
 returns : tie.Need-returns Inv-loop μ-loop
-returns c = sym (all-not 4 _ _ (c .before .before .loop-test .taken) (fails (c .before .spaced .ensures) (c .if1 .taken)))
+returns c = sym (all-not places _ _ (c .before .before .loop-test .taken) (fails (c .before .spaced .ensures) (c .if1 .taken)))
 
 add-k : tie.Need-add-k Inv-loop μ-loop
 add-k c = search needs
@@ -39,7 +40,7 @@ loop-again : tie.Need-loop-again Inv-loop μ-loop
 loop-again c = (search needs, all-turn _ _ (c .before .before .before .loop .inv .1) (holds (c .before .spaced .ensures) (c .if1 .left)))
 
 returns-2 : tie.Need-returns-2 Inv-loop μ-loop
-returns-2 c = let e : c .before .loop .k ≡ 4 = omega arith in sym (rw e at (c .before .loop .inv .1))
+returns-2 c = let e : c .before .loop .k ≡ places = omega arith in sym (rw e at (c .before .loop .inv .1))
 
 pub ordered-spec : {M : Type 1} → statement M
 ordered-spec =

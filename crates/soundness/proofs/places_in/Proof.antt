@@ -4,6 +4,7 @@ use mathlib.Core.Bool.{true}
 use Prim.Native.Nat.{_-_, _≤_}
 use native.Mathlib.Omega.{arith}
 use lib.Dec.{ltb}
+use Rattle.election.specs.System.{places}
 use Rattle.lists.proofs.Bools.{holds, fails}
 use Rattle.lists.specs.Test.{allTo}
 use Rattle.lists.proofs.Test.{all-none, all-turn, all-not}
@@ -16,10 +17,10 @@ use Rattle.soundness.proofs.places_in.Lts as lts
 use Rattle.soundness.proofs.message_place.Reads as message-place-reads
 
 abbrev Inv-loop : tie.InvT-loop
-Inv-loop n period tick sender l ms k₀ k = (k ≤ 4) × (allTo k (λ i. messagePlace n period tick sender (ltb i (l .used)) (messageAt l i)) ≡ true)
+Inv-loop n period tick sender l ms k₀ k = (k ≤ places) × (allTo k (λ i. messagePlace n period tick sender (ltb i (l .used)) (messageAt l i)) ≡ true)
 
 abbrev μ-loop : tie.MeasureT-loop
-μ-loop n period tick sender l ms k₀ k = 4 - k
+μ-loop n period tick sender l ms k₀ k = places - k
 
 loop-holds : tie.Need-loop-holds Inv-loop μ-loop
 loop-holds c = (search needs, all-none _)
@@ -37,7 +38,7 @@ message-place-requires : tie.Need-message-place-requires Inv-loop μ-loop
 message-place-requires c κs = search needs
 
 returns : tie.Need-returns Inv-loop μ-loop
-returns c = sym (all-not 4 _ _ (c .before .before .before .before .loop-test .taken) (fails (c .before .message-place .ensures) (c .if1 .taken)))
+returns c = sym (all-not places _ _ (c .before .before .before .before .loop-test .taken) (fails (c .before .message-place .ensures) (c .if1 .taken)))
 
 add-k : tie.Need-add-k Inv-loop μ-loop
 add-k c = search needs
@@ -49,7 +50,7 @@ loop-again : tie.Need-loop-again Inv-loop μ-loop
 loop-again c = (search needs, all-turn _ _ (c .before .before .before .before .before .loop .inv .1) (holds (c .before .message-place .ensures) (c .if1 .left)))
 
 returns-2 : tie.Need-returns-2 Inv-loop μ-loop
-returns-2 c = let e : c .before .loop .k ≡ 4 = omega arith in sym (rw e at (c .before .loop .inv .1))
+returns-2 c = let e : c .before .loop .k ≡ places = omega arith in sym (rw e at (c .before .loop .inv .1))
 
 pub places-in-spec : {M : Type 1} → statement M
 places-in-spec =

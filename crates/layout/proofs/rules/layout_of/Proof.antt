@@ -3,17 +3,17 @@ use mathlib.Core.Path.{_≡_, refl, ap}
 use Prim.Native.Nat.{_-_, _≤_}
 use native.Mathlib.Omega.{arith}
 use lib.ListN.{length-map}
-use Rattle.layout.proofs.Stores.{withLinks}
+use Rattle.election.specs.System.{withLinks, places}
 use Rattle.layout.proofs.Between.{Placed, placed-none, placed-turn, links-four, Laid, laid-none, laid-turn, laid-all}
 use borrow.Author.Needs.{needs}
 use Rattle.layout.proofs.rules.layout_of.Statement.{statement}
 use Rattle.layout.proofs.rules.layout_of.Tie as tie
 
 abbrev Inv-loop2 : tie.InvT-loop2
-Inv-loop2 s used messages₀ k l i₀ messages i = (i ≤ 4) × Placed k (l .messages) messages₀ messages i
+Inv-loop2 s used messages₀ k l i₀ messages i = (i ≤ places) × Placed k (l .messages) messages₀ messages i
 
 abbrev μ-loop2 : tie.MeasureT-loop2
-μ-loop2 s used messages₀ k l i₀ messages i = 4 - i
+μ-loop2 s used messages₀ k l i₀ messages i = places - i
 
 abbrev Inv-loop : tie.InvT-loop
 Inv-loop s used₀ messages₀ k₀ used messages k = (k ≤ 64) × Laid (s .links) used messages k
@@ -32,7 +32,7 @@ loop2-again c = (search needs, placed-turn _ _ _ _ _ (c .before .before .loop2 .
 
 loop-again : tie.Need-loop-again Inv-loop2 μ-loop2 Inv-loop μ-loop
 loop-again c =
-    let e : c .before .loop2 .i ≡ 4 = omega arith in
+    let e : c .before .loop2 .i ≡ places = omega arith in
     let start = c .before .before .before .before .before .before in
     let good = start .good .0 .1 .1 .1 .1 .1 .1 .1 .1 .1 .0 in
     (search needs, laid-turn _ _ _ _ _ (c .before .before .before .before .loop .inv .1) (search needs) (rw e at (c .before .loop2 .inv .1)) (links-four (start .args .t1 .links) (good .0) (good .1 .1) (c .before .before .before .before .loop .k) (omega (arith, simp length-map at (good .1 .0 .1)))))

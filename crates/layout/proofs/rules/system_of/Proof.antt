@@ -5,17 +5,17 @@ use native.Mathlib.Omega.{arith}
 use Rattle.lists.specs.Entries.{firsts}
 use Rattle.lists.proofs.Entries.{firsts-zero, firsts-turn, firsts-all}
 use Rattle.layout.specs.Layout.{linkOf, linksOf, systemOf}
-use Rattle.layout.proofs.Stores.{withLinks}
+use Rattle.election.specs.System.{withLinks, places}
 use Rattle.layout.proofs.Between.{taken, taken-all}
 use borrow.Author.Needs.{needs}
 use Rattle.layout.proofs.rules.system_of.Statement.{statement}
 use Rattle.layout.proofs.rules.system_of.Tie as tie
 
 abbrev Inv-loop2 : tie.InvT-loop2
-Inv-loop2 x none links k l₀ i₀ l i = (i ≤ 4) × (l .used ≡ l₀ .used) × (l .messages ≡ taken (x .messages) k i (l₀ .messages))
+Inv-loop2 x none links k l₀ i₀ l i = (i ≤ places) × (l .used ≡ l₀ .used) × (l .messages ≡ taken (x .messages) k i (l₀ .messages))
 
 abbrev μ-loop2 : tie.MeasureT-loop2
-μ-loop2 x none links k l₀ i₀ l i = 4 - i
+μ-loop2 x none links k l₀ i₀ l i = places - i
 
 abbrev Inv-loop : tie.InvT-loop
 Inv-loop x none links₀ k₀ links k = (k ≤ 64) × (links ≡ firsts k (linkOf (x .used) (x .messages)) links₀)
@@ -34,7 +34,7 @@ loop2-again c = (search needs, c .before .before .loop2 .inv .1, firsts-turn _ _
 
 loop-again : tie.Need-loop-again Inv-loop2 μ-loop2 Inv-loop μ-loop
 loop-again c =
-    let e : c .before .loop2 .i ≡ 4 = omega arith in
+    let e : c .before .loop2 .i ≡ places = omega arith in
     (search needs, firsts-turn _ _ _ _ _ (search needs) (c .before .before .before .before .loop .inv .1) (taken-all _ _ _ _ _ refl (c .before .loop2 .inv .1) (rw e at (c .before .loop2 .inv .2))))
 
 returns : tie.Need-returns Inv-loop2 μ-loop2 Inv-loop μ-loop

@@ -8,8 +8,8 @@ use native.Mathlib.Omega.{arith}
 use lib.ListN.{length, getD, length-map, length-append}
 use borrow.Author.Needs.{needs}
 use Rattle.station.specs.declared.Station.{Station}
-use Rattle.election.specs.Commands.{SetUp, Start, Crash, Link, Run, Lose, Report, decode, operands, perform, withStation}
-use Rattle.election.specs.System.{unused, initial}
+use Rattle.election.specs.Commands.{SetUp, Start, Crash, Link, Run, Lose, Report, decode, operands, perform}
+use Rattle.election.specs.System.{withStation, unused, initial, places}
 use Rattle.election.proofs.Accepting.{accepts}
 use Rattle.election.proofs.Soundness.{sound-of}
 use Rattle.election.specs.Listing.{listing}
@@ -23,10 +23,10 @@ use Rattle.simulator.proofs.rules.go_on.Statement.{statement}
 use Rattle.simulator.proofs.rules.go_on.Tie as tie
 
 abbrev Inv-loop2 : tie.InvT-loop2
-Inv-loop2 from bytes list buffer s₀ empty at size k from' to link i₀ s i = (i ≤ 4) × (link < 64) × Clearing link s₀ s 0 i
+Inv-loop2 from bytes list buffer s₀ empty at size k from' to link i₀ s i = (i ≤ places) × (link < 64) × Clearing link s₀ s 0 i
 
 abbrev μ-loop2 : tie.MeasureT-loop2
-μ-loop2 from bytes list buffer s₀ empty at size k from' to link i₀ s i = 4 - i
+μ-loop2 from bytes list buffer s₀ empty at size k from' to link i₀ s i = places - i
 
 abbrev Inv-loop : tie.InvT-loop
 Inv-loop from bytes list buffer₀ s₀ empty at₀ size₀ buffer s at size = (length buffer ≡ length buffer₀) × Going list bytes buffer₀ (systemOf s₀) at₀ s at size buffer

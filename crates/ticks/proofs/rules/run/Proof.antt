@@ -15,8 +15,7 @@ use Rattle.layout.specs.Layout.{systemOf}
 use Rattle.layout.specs.declared.Layout.{Layout}
 use Rattle.layout.proofs.Full.{counts-owned, held-of}
 use Rattle.layout.proofs.Stores.{Wide, part, length-links, Clearing, clearing-none, clearing-turn, used-read}
-use Rattle.election.specs.Idle.{atTick}
-use Rattle.election.specs.System.{noStation, noMessage, noLink}
+use Rattle.election.specs.System.{atTick, noStation, noMessage, noLink}
 use Rattle.election.specs.declared.System.{System}
 use Rattle.election.proofs.Soundness.{sound-of}
 use Rattle.ticks.proofs.Chances.{Chances, chances-first, chances-station, chances-says, chances-late, chances-n, chances-period, chances-sent, chances-skips, chances-free, chances-sends, chances-done, Turn, turn-ends, turn-stays, turn-sends, turn-rests, turn-slots, turn-waits}
@@ -43,7 +42,7 @@ abbrev μ-loop : tie.MeasureT-loop
 
 abbrev Inv-loop6 : tie.InvT-loop6
 Inv-loop6 t s₀ end n empty busy now until₀ q more₀ p k u to₀ i₀ s until more to i =
-    (i ≤ u) × (u ≤ 4) × (now ≤ until) × (until ≤ until₀) × (to ≤ i) × Packing now k s₀ s until to i × Heard (p + 1) (q + 1) now (part (s₀ .messages) k) (getD (s₀ .stations) p noStation) (getD (s .stations) p noStation) i × Beside p (s₀ .stations) (s .stations)
+    (i ≤ u) × (u ≤ 4) × (now ≤ until) × (until ≤ until₀) × (to ≤ i) × Packing now k s₀ s until to i × Heard (systemOf s₀) (p + 1) (q + 1) now (part (s₀ .messages) k) (getD (s₀ .stations) p noStation) (getD (s .stations) p noStation) i × Beside p (s₀ .stations) (s .stations)
     × (more ≡ false → (more₀ ≡ false) × (to ≡ 0))
 
 abbrev μ-loop6 : tie.MeasureT-loop6
@@ -159,7 +158,7 @@ loop6-holds c =
     let hp : p < n = omega (arith, c .before .before .before .loop5-test .taken) in
     let k = 8 * q + p in
     let hk : k < 64 = omega (arith, i .0, hp, hq) in
-    (search needs, omega (arith, taken-few n now r _ _ p q (i .0) hp hq gone, used-read x k hk, c .before .count .ensures), i5 .1, omega arith, omega arith, packing-none _ _ _ _ (i5 .3), heard-first _ _ _ _ _, beside-none _ _, λ e. (e, refl))
+    (search needs, omega (arith, taken-few n now r _ _ p q (i .0) hp hq gone, used-read x k hk, c .before .count .ensures), i5 .1, omega arith, omega arith, packing-none _ _ _ _ (i5 .3), heard-first _ _ _ _ _ _, beside-none _ _, λ e. (e, refl))
 
 element-copy-out-m : tie.Need-element-copy-out-m Inv-loop2 μ-loop2 Inv-loop μ-loop Inv-loop6 μ-loop6 Inv-loop7 μ-loop7 Inv-loop5 μ-loop5 Inv-loop4 μ-loop4 Inv-loop9 μ-loop9 Inv-loop8 μ-loop8 Inv-loop3 μ-loop3
 element-copy-out-m c = search needs
@@ -212,7 +211,7 @@ loop6-again c =
       omega (arith, w .4, w .1 .ensures .1, i6 .3),
       omega (arith, w .6, i6 .4),
       packing-keeps _ k _ _ _ _ _ (i6 .5) hk hj _ _ _ _ _ refl (w .0 .taken) (w .1 .ensures .1) (w .1 .ensures .2) (w .3) (w .4) (w .6),
-      heard-waits (p + 1) (q + 1) now _ _ _ _ j m (i6 .6) hl old (w .0 .taken) (ap (λ (z : Layout). getD (z .stations) p noStation) (w .3)),
+      heard-waits _ (p + 1) (q + 1) now _ _ _ _ j m (i6 .6) hl old (w .0 .taken) (ap (λ (z : Layout). getD (z .stations) p noStation) (w .3)),
       subst (λ (z : Layout). Beside p (x .stations) (z .stations)) (sym (w .3)) (i6 .7),
       λ e. absurd (true≢false (sym (w .5) ∙ e)),
     ))
@@ -224,7 +223,7 @@ loop6-again c =
       omega (arith, w .7, i6 .3),
       omega (arith, w .9, i6 .4),
       packing-drops _ k _ _ _ _ _ (i6 .5) hk hj _ _ _ _ _ refl (w .0 .left) (w .6) (w .7) (w .9),
-      heard-due (p + 1) (q + 1) now _ _ _ _ j m (i6 .6) hl old (w .0 .left) (w .1 .taken) (ap (λ (z : Layout). getD (z .stations) p noStation) (w .6) ∙ getD-set-same (s .stations) p _ noStation long ∙ w .5 .ensures),
+      heard-due _ (p + 1) (q + 1) now _ _ _ _ j m (i6 .6) hl old (w .0 .left) (w .1 .taken) (ap (λ (z : Layout). getD (z .stations) p noStation) (w .6) ∙ getD-set-same (s .stations) p _ noStation long ∙ w .5 .ensures),
       subst (λ (z : Layout). Beside p (x .stations) (z .stations)) (sym (w .6)) (beside-stores p _ _ _ (i6 .7)),
       λ e. (i6 .8 (sym (w .8) ∙ e) .0, w .9 ∙ i6 .8 (sym (w .8) ∙ e) .1),
     ))
@@ -235,7 +234,7 @@ loop6-again c =
       omega (arith, w .3, i6 .3),
       omega (arith, w .5, i6 .4),
       packing-drops _ k _ _ _ _ _ (i6 .5) hk hj _ _ _ (s .stations) _ refl (w .0 .left) (w .2) (w .3) (w .5),
-      heard-down (p + 1) (q + 1) now _ _ _ _ j m (i6 .6) hl old (w .0 .left) (w .1 .left) (ap (λ (z : Layout). getD (z .stations) p noStation) (w .2)),
+      heard-down _ (p + 1) (q + 1) now _ _ _ _ j m (i6 .6) hl old (w .0 .left) (w .1 .left) (ap (λ (z : Layout). getD (z .stations) p noStation) (w .2)),
       subst (λ (z : Layout). Beside p (x .stations) (z .stations)) (sym (w .2)) (i6 .7),
       λ e. (i6 .8 (sym (w .4) ∙ e) .0, w .5 ∙ i6 .8 (sym (w .4) ∙ e) .1),
     ))
@@ -281,7 +280,7 @@ loop5-again c =
     let pack = subst (Packing now k x (w .1 .s) (w .1 .until) (w .1 .to)) zu (i6 .5) in
     let zj : w .3 .j ≡ u = omega (arith, w .4 .left, w .3 .inv .1) in
     let clear = subst (Clearing k (w .1 .s) (w .3 .s) (w .1 .to)) zj (w .3 .inv .3) in
-    let said = subst (Heard (p + 1) (q + 1) now (part (x .messages) k) (getD (x .stations) p noStation) (getD (w .1 .s .stations) p noStation)) zu (i6 .6) in
+    let said = subst (Heard (systemOf x) (p + 1) (q + 1) now (part (x .messages) k) (getD (x .stations) p noStation) (getD (w .1 .s .stations) p noStation)) zu (i6 .6) in
     let us = link-used-is n now p q (i .0) hp hq x _ _ _ _ u pack clear (i5 .3) (i6 .1) e _ (w .5) in (
       omega arith,
       rw (w .6) (i6 .2),

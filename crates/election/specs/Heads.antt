@@ -1,0 +1,30 @@
+-- What the heads of a system do in a tick: four rules, which the tick goes by. Its laws are said of any rules.
+use mathlib.Core.Bool.{Bool}
+use Prim.Native.Nat.{ℕ}
+use Rattle.station.specs.Rules.{heard, expired, slotted, sends}
+use Rattle.station.specs.declared.Station.{Station}
+use Rattle.election.specs.declared.Message.{Message}
+use Rattle.election.specs.declared.System.{System}
+
+-- how a station me hears a message of q's in the tick now
+abbrev pub Hearing : Type 0
+Hearing = ℕ → ℕ → Message → ℕ → Station → Station
+
+-- by the counts that the message brings
+abbrev pub byCounts : Hearing
+byCounts me q m now x = heard me q (m .counts) now x
+
+abbrev pub hearing : System → Hearing
+hearing s = byCounts
+
+-- the end of its timer
+abbrev pub expiring : System → ℕ → Station → Station
+expiring s me x = expired me x
+
+-- its send chance in the tick now
+abbrev pub slotting : System → ℕ → Station → Station
+slotting s now x = slotted (s .period) now x
+
+-- whether it sends LEADER at its chance
+abbrev pub announces : System → ℕ → Station → Bool
+announces s me x = sends me x
