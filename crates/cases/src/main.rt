@@ -1,0 +1,20 @@
+// Runs the cases of standard input, one to a line, and prints a line for each, and how many there were.
+mod changes;
+mod commands;
+mod desk;
+mod frames;
+mod line;
+mod listings;
+mod numbers;
+mod row;
+mod schedules;
+mod stations;
+mod systems;
+mod table;
+
+fn main() {
+    let mut space = io::large_buffer();
+    let mut bytes = [0u8; 65537];
+    let size = io::read_full(0, &mut space);
+    table::run(&space[..size], &mut bytes);
+}
