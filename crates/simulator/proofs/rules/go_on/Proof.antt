@@ -1,23 +1,26 @@
 -- The function rules::go_on meets its contract.
 use mathlib.Core.Path.{_≡_, refl, sym, ap, subst, _∙_}
 use mathlib.Core.Logic.{⊎-elim}
-use mathlib.Core.List.{[], _∷_}
-use mathlib.Core.Bool.{and-false}
+use mathlib.Core.List.{List, [], _∷_}
+use mathlib.Core.Bool.{Bool, true, false, _&&_, and-false}
 use Prim.Native.Nat.{ℕ, _+_, _-_, _<_, _≤_}
 use native.Mathlib.Omega.{arith}
-use lib.ListN.{length, getD, length-map, length-append}
+use lib.ListN.{length, getD, drop, length-map, length-append}
 use borrow.Author.Needs.{needs}
 use Rattle.station.specs.declared.Station.{Station}
-use Rattle.election.specs.Commands.{SetUp, Start, Crash, Link, Run, Lose, Report, decode, operands, perform}
+use Rattle.election.specs.Commands.{Command, SetUp, Start, Crash, Link, Run, Lose, Report, decode, operands, ruling, perform}
 use Rattle.election.specs.System.{withStation, unused, initial, places}
-use Rattle.election.proofs.Accepting.{accepts}
-use Rattle.election.proofs.Soundness.{sound-of}
+use Rattle.election.proofs.Accepting.{Accepts, accepts}
+use Rattle.election.proofs.Soundness.{Sound, sound-of}
 use Rattle.election.specs.Listing.{listing}
+use Rattle.election.specs.declared.System.{System}
 use Rattle.layout.specs.Layout.{systemOf}
+use Rattle.layout.specs.declared.Layout.{Layout}
 use Rattle.layout.proofs.Stores.{Wide, Clearing, clearing-none, clearing-turn}
 use Rattle.listing.proofs.Parts.{room-part}
 use Rattle.listing.proofs.Room.{listing-room}
-use Rattle.simulator.specs.Decided.{meaning}
+use Rattle.simulator.specs.Decided.{Taken, decided, meaning}
+use Rattle.simulator.specs.declared.rules.decision.Decision.{Decision}
 use Rattle.simulator.proofs.Turns.{decided-of, station-stored, delay-stored, messages-stored, Going, going-first, same-size, ends, turned-down, taken, stops-full, inside-after, further, listed}
 use Rattle.simulator.proofs.rules.go_on.Statement.{statement}
 use Rattle.simulator.proofs.rules.go_on.Tie as tie
@@ -38,218 +41,116 @@ loop-holds : tie.Need-loop-holds Inv-loop2 μ-loop2 Inv-loop μ-loop
 loop-holds c =
     (refl, going-first _ _ _ (c .before .before .before .args .t1) _ (c .before .before .before .pre) (record { used = simp length-map at (c .before .before .before .good .0 .1 .1 .1 .1 .1 .1 .1 .1 .1 .0 .1 .0 .1); messages = simp length-map at (c .before .before .before .good .0 .1 .1 .1 .1 .1 .1 .1 .1 .1 .1 .0 .1 .0 .1) }))
 
+-- where a command is decided: the system, the offset, what is written, and the decision
+module _ (x : tie.After-decide Inv-loop2 μ-loop2 Inv-loop μ-loop) where
+  abbrev s : Layout
+  s = x .before .before .before .before .before .before .loop .s
+
+  abbrev at : ℕ
+  at = x .before .before .before .before .before .before .loop .at
+
+  abbrev size : ℕ
+  size = x .before .before .before .before .before .before .loop .size
+
+  abbrev buffer : List ℕ
+  buffer = x .before .before .before .before .before .before .loop .buffer
+
+  abbrev bytes : List ℕ
+  bytes = x .before .before .before .before .before .before .before .before .before .before .args .bytes .now
+
+  abbrev list : Bool
+  list = x .before .before .before .before .before .before .before .before .before .before .args .list
+
+  abbrev old : List ℕ
+  old = x .before .before .before .before .before .before .before .before .before .before .args .buffer .now
+
+  abbrev s₀ : System
+  s₀ = systemOf (x .before .before .before .before .before .before .before .before .before .before .args .t1)
+
+  abbrev from : ℕ
+  from = x .before .before .before .before .before .before .before .before .before .before .args .from
+
+  abbrev d : Decision
+  d = x .decide .result
+
+  g : Going list bytes old s₀ from s at size buffer
+  g = x .before .before .before .before .before .before .loop .inv .1
+
+  inside : at < length bytes
+  inside = x .before .before .before .before .before .loop-test .taken
+
+  m : meaning d ≡ decided (ruling (systemOf s) (drop at bytes)) (decode (drop at bytes))
+  m = decided-of s bytes at (x .before .before .before .named .result) d (g .is-sound) (x .before .before .before .named .ensures) (x .decide .ensures)
+
+  -- a command that is taken is accepted, by a sound system
+  accepted : (k : Command) → meaning d ≡ Taken k → Accepts k (systemOf s)
+  accepted k t = accepts k (systemOf s) (taken list bytes old s₀ from s at size buffer g inside d m k t .1)
+
+  is : systemOf s .ready ≡ true → Sound (systemOf s)
+  is ready = sound-of (systemOf s) (g .is-sound) ready
+
 returns : tie.Need-returns Inv-loop2 μ-loop2 Inv-loop μ-loop
 returns c =
-    let s = c .before .before .before .before .before .before .before .before .before .loop .s in
-    let at = c .before .before .before .before .before .before .before .before .before .loop .at in
-    let size = c .before .before .before .before .before .before .before .before .before .loop .size in
-    let buffer = c .before .before .before .before .before .before .before .before .before .loop .buffer in
-    let bytes = c .before .before .before .before .before .before .before .before .before .before .before .before .before .args .bytes .now in
-    let list = c .before .before .before .before .before .before .before .before .before .before .before .before .before .args .list in
-    let old = c .before .before .before .before .before .before .before .before .before .before .before .before .before .args .buffer .now in
-    let s₀ = systemOf (c .before .before .before .before .before .before .before .before .before .before .before .before .before .args .t1) in
-    let from = c .before .before .before .before .before .before .before .before .before .before .before .before .before .args .from in
-    let g = c .before .before .before .before .before .before .before .before .before .loop .inv .1 in
-    let inside = c .before .before .before .before .before .before .before .before .loop-test .taken in
-    let d = c .before .before .before .decide .result in
-    let m = decided-of s bytes at (c .before .before .before .before .before .before .named .result) d (g .is-sound) (c .before .before .before .before .before .before .named .ensures) (c .before .before .before .decide .ensures) in
-    turned-down list bytes old s₀ from s at size buffer g inside d m (c .before .d .given .0 .0) (c .before .d .given .1)
+    let x = c .before .before .before in
+    turned-down (list x) (bytes x) (old x) (s₀ x) (from x) (s x) (at x) (size x) (buffer x) (g x) (inside x) (d x) (m x) (c .before .d .given .0 .0) (c .before .d .given .1)
 
 sub-place : tie.Need-sub-place Inv-loop2 μ-loop2 Inv-loop μ-loop
 sub-place c =
-    let s = c .before .before .before .before .before .before .before .before .before .loop .s in
-    let at = c .before .before .before .before .before .before .before .before .before .loop .at in
-    let size = c .before .before .before .before .before .before .before .before .before .loop .size in
-    let buffer = c .before .before .before .before .before .before .before .before .before .loop .buffer in
-    let bytes = c .before .before .before .before .before .before .before .before .before .before .before .before .before .args .bytes .now in
-    let list = c .before .before .before .before .before .before .before .before .before .before .before .before .before .args .list in
-    let old = c .before .before .before .before .before .before .before .before .before .before .before .before .before .args .buffer .now in
-    let s₀ = systemOf (c .before .before .before .before .before .before .before .before .before .before .before .before .before .args .t1) in
-    let from = c .before .before .before .before .before .before .before .before .before .before .before .before .before .args .from in
-    let g = c .before .before .before .before .before .before .before .before .before .loop .inv .1 in
-    let inside = c .before .before .before .before .before .before .before .before .loop-test .taken in
-    let d = c .before .before .before .decide .result in
-    let m = decided-of s bytes at (c .before .before .before .before .before .before .named .result) d (g .is-sound) (c .before .before .before .before .before .before .named .ensures) (c .before .before .before .decide .ensures) in
-    let p = c .before .d3 .given .0 .0 in
-    let (ready, i, down, few) = accepts (Start p) (systemOf s) (taken list bytes old s₀ from s at size buffer g inside d m (Start p) (ap meaning (c .before .d3 .given .1)) .1) in
+    let (ready, i, down, few) = accepted (c .before .before .before) _ (ap meaning (c .before .d3 .given .1)) in
     omega (arith, i .low)
 
 element-copy-out-start : tie.Need-element-copy-out-start Inv-loop2 μ-loop2 Inv-loop μ-loop
 element-copy-out-start c =
-    let s = c .before .before .before .before .before .before .before .before .before .loop .s in
-    let at = c .before .before .before .before .before .before .before .before .before .loop .at in
-    let size = c .before .before .before .before .before .before .before .before .before .loop .size in
-    let buffer = c .before .before .before .before .before .before .before .before .before .loop .buffer in
-    let bytes = c .before .before .before .before .before .before .before .before .before .before .before .before .before .args .bytes .now in
-    let list = c .before .before .before .before .before .before .before .before .before .before .before .before .before .args .list in
-    let old = c .before .before .before .before .before .before .before .before .before .before .before .before .before .args .buffer .now in
-    let s₀ = systemOf (c .before .before .before .before .before .before .before .before .before .before .before .before .before .args .t1) in
-    let from = c .before .before .before .before .before .before .before .before .before .before .before .before .before .args .from in
-    let g = c .before .before .before .before .before .before .before .before .before .loop .inv .1 in
-    let inside = c .before .before .before .before .before .before .before .before .loop-test .taken in
-    let d = c .before .before .before .decide .result in
-    let m = decided-of s bytes at (c .before .before .before .before .before .before .named .result) d (g .is-sound) (c .before .before .before .before .before .before .named .ensures) (c .before .before .before .decide .ensures) in
-    let p = c .before .d3 .given .0 .0 in
-    let (ready, i, down, few) = accepts (Start p) (systemOf s) (taken list bytes old s₀ from s at size buffer g inside d m (Start p) (ap meaning (c .before .d3 .given .1)) .1) in
-    omega (arith, i .low, i .high, sound-of (systemOf s) (g .is-sound) ready .n-high)
+    let x = c .before .before .before in
+    let (ready, i, down, few) = accepted x _ (ap meaning (c .before .d3 .given .1)) in
+    omega (arith, i .low, i .high, is x ready .n-high)
 
 start-requires : tie.Need-start-requires Inv-loop2 μ-loop2 Inv-loop μ-loop
 start-requires c κs =
-    let s = c .before .before .before .before .before .before .before .before .before .before .loop .s in
-    let at = c .before .before .before .before .before .before .before .before .before .before .loop .at in
-    let size = c .before .before .before .before .before .before .before .before .before .before .loop .size in
-    let buffer = c .before .before .before .before .before .before .before .before .before .before .loop .buffer in
-    let bytes = c .before .before .before .before .before .before .before .before .before .before .before .before .before .before .args .bytes .now in
-    let list = c .before .before .before .before .before .before .before .before .before .before .before .before .before .before .args .list in
-    let old = c .before .before .before .before .before .before .before .before .before .before .before .before .before .before .args .buffer .now in
-    let s₀ = systemOf (c .before .before .before .before .before .before .before .before .before .before .before .before .before .before .args .t1) in
-    let from = c .before .before .before .before .before .before .before .before .before .before .before .before .before .before .args .from in
-    let g = c .before .before .before .before .before .before .before .before .before .before .loop .inv .1 in
-    let inside = c .before .before .before .before .before .before .before .before .before .loop-test .taken in
-    let d = c .before .before .before .before .decide .result in
-    let m = decided-of s bytes at (c .before .before .before .before .before .before .before .named .result) d (g .is-sound) (c .before .before .before .before .before .before .before .named .ensures) (c .before .before .before .before .decide .ensures) in
-    let p = c .before .before .d3 .given .0 .0 in
-    let (ready, i, down, few) = accepts (Start p) (systemOf s) (taken list bytes old s₀ from s at size buffer g inside d m (Start p) (ap meaning (c .before .before .d3 .given .1)) .1) in
-    let is = sound-of (systemOf s) (g .is-sound) ready in
-    (i .low, omega (arith, i .high, is .n-high), is .period-high, is .tick-high, few)
+    let x = c .before .before .before .before in
+    let (ready, i, down, few) = accepted x _ (ap meaning (c .before .before .d3 .given .1)) in
+    (i .low, omega (arith, i .high, is x ready .n-high), is x ready .period-high, is x ready .tick-high, few)
 
 element-set-from-s : tie.Need-element-set-from-s Inv-loop2 μ-loop2 Inv-loop μ-loop
 element-set-from-s c =
-    let s = c .before .before .before .before .before .before .before .before .before .before .before .loop .s in
-    let at = c .before .before .before .before .before .before .before .before .before .before .before .loop .at in
-    let size = c .before .before .before .before .before .before .before .before .before .before .before .loop .size in
-    let buffer = c .before .before .before .before .before .before .before .before .before .before .before .loop .buffer in
-    let bytes = c .before .before .before .before .before .before .before .before .before .before .before .before .before .before .before .args .bytes .now in
-    let list = c .before .before .before .before .before .before .before .before .before .before .before .before .before .before .before .args .list in
-    let old = c .before .before .before .before .before .before .before .before .before .before .before .before .before .before .before .args .buffer .now in
-    let s₀ = systemOf (c .before .before .before .before .before .before .before .before .before .before .before .before .before .before .before .args .t1) in
-    let from = c .before .before .before .before .before .before .before .before .before .before .before .before .before .before .before .args .from in
-    let g = c .before .before .before .before .before .before .before .before .before .before .before .loop .inv .1 in
-    let inside = c .before .before .before .before .before .before .before .before .before .before .loop-test .taken in
-    let d = c .before .before .before .before .before .decide .result in
-    let m = decided-of s bytes at (c .before .before .before .before .before .before .before .before .named .result) d (g .is-sound) (c .before .before .before .before .before .before .before .before .named .ensures) (c .before .before .before .before .before .decide .ensures) in
-    let p = c .before .before .before .d3 .given .0 .0 in
-    let (ready, i, down, few) = accepts (Start p) (systemOf s) (taken list bytes old s₀ from s at size buffer g inside d m (Start p) (ap meaning (c .before .before .before .d3 .given .1)) .1) in
-    omega (arith, i .low, i .high, sound-of (systemOf s) (g .is-sound) ready .n-high)
+    let x = c .before .before .before .before .before in
+    let (ready, i, down, few) = accepted x _ (ap meaning (c .before .before .before .d3 .given .1)) in
+    omega (arith, i .low, i .high, is x ready .n-high)
 
 sub-place-2 : tie.Need-sub-place-2 Inv-loop2 μ-loop2 Inv-loop μ-loop
 sub-place-2 c =
-    let s = c .before .before .before .before .before .before .before .before .before .loop .s in
-    let at = c .before .before .before .before .before .before .before .before .before .loop .at in
-    let size = c .before .before .before .before .before .before .before .before .before .loop .size in
-    let buffer = c .before .before .before .before .before .before .before .before .before .loop .buffer in
-    let bytes = c .before .before .before .before .before .before .before .before .before .before .before .before .before .args .bytes .now in
-    let list = c .before .before .before .before .before .before .before .before .before .before .before .before .before .args .list in
-    let old = c .before .before .before .before .before .before .before .before .before .before .before .before .before .args .buffer .now in
-    let s₀ = systemOf (c .before .before .before .before .before .before .before .before .before .before .before .before .before .args .t1) in
-    let from = c .before .before .before .before .before .before .before .before .before .before .before .before .before .args .from in
-    let g = c .before .before .before .before .before .before .before .before .before .loop .inv .1 in
-    let inside = c .before .before .before .before .before .before .before .before .loop-test .taken in
-    let d = c .before .before .before .decide .result in
-    let m = decided-of s bytes at (c .before .before .before .before .before .before .named .result) d (g .is-sound) (c .before .before .before .before .before .before .named .ensures) (c .before .before .before .decide .ensures) in
-    let p = c .before .d4 .given .0 .0 in
-    let (ready, i, up) = accepts (Crash p) (systemOf s) (taken list bytes old s₀ from s at size buffer g inside d m (Crash p) (ap meaning (c .before .d4 .given .1)) .1) in
+    let (ready, i, up) = accepted (c .before .before .before) _ (ap meaning (c .before .d4 .given .1)) in
     omega (arith, i .low)
 
 element-copy-out-crash : tie.Need-element-copy-out-crash Inv-loop2 μ-loop2 Inv-loop μ-loop
 element-copy-out-crash c =
-    let s = c .before .before .before .before .before .before .before .before .before .loop .s in
-    let at = c .before .before .before .before .before .before .before .before .before .loop .at in
-    let size = c .before .before .before .before .before .before .before .before .before .loop .size in
-    let buffer = c .before .before .before .before .before .before .before .before .before .loop .buffer in
-    let bytes = c .before .before .before .before .before .before .before .before .before .before .before .before .before .args .bytes .now in
-    let list = c .before .before .before .before .before .before .before .before .before .before .before .before .before .args .list in
-    let old = c .before .before .before .before .before .before .before .before .before .before .before .before .before .args .buffer .now in
-    let s₀ = systemOf (c .before .before .before .before .before .before .before .before .before .before .before .before .before .args .t1) in
-    let from = c .before .before .before .before .before .before .before .before .before .before .before .before .before .args .from in
-    let g = c .before .before .before .before .before .before .before .before .before .loop .inv .1 in
-    let inside = c .before .before .before .before .before .before .before .before .loop-test .taken in
-    let d = c .before .before .before .decide .result in
-    let m = decided-of s bytes at (c .before .before .before .before .before .before .named .result) d (g .is-sound) (c .before .before .before .before .before .before .named .ensures) (c .before .before .before .decide .ensures) in
-    let p = c .before .d4 .given .0 .0 in
-    let (ready, i, up) = accepts (Crash p) (systemOf s) (taken list bytes old s₀ from s at size buffer g inside d m (Crash p) (ap meaning (c .before .d4 .given .1)) .1) in
-    omega (arith, i .low, i .high, sound-of (systemOf s) (g .is-sound) ready .n-high)
+    let x = c .before .before .before in
+    let (ready, i, up) = accepted x _ (ap meaning (c .before .d4 .given .1)) in
+    omega (arith, i .low, i .high, is x ready .n-high)
 
 element-set-from-s-2 : tie.Need-element-set-from-s-2 Inv-loop2 μ-loop2 Inv-loop μ-loop
 element-set-from-s-2 c =
-    let s = c .before .before .before .before .before .before .before .before .before .before .before .loop .s in
-    let at = c .before .before .before .before .before .before .before .before .before .before .before .loop .at in
-    let size = c .before .before .before .before .before .before .before .before .before .before .before .loop .size in
-    let buffer = c .before .before .before .before .before .before .before .before .before .before .before .loop .buffer in
-    let bytes = c .before .before .before .before .before .before .before .before .before .before .before .before .before .before .before .args .bytes .now in
-    let list = c .before .before .before .before .before .before .before .before .before .before .before .before .before .before .before .args .list in
-    let old = c .before .before .before .before .before .before .before .before .before .before .before .before .before .before .before .args .buffer .now in
-    let s₀ = systemOf (c .before .before .before .before .before .before .before .before .before .before .before .before .before .before .before .args .t1) in
-    let from = c .before .before .before .before .before .before .before .before .before .before .before .before .before .before .before .args .from in
-    let g = c .before .before .before .before .before .before .before .before .before .before .before .loop .inv .1 in
-    let inside = c .before .before .before .before .before .before .before .before .before .before .loop-test .taken in
-    let d = c .before .before .before .before .before .decide .result in
-    let m = decided-of s bytes at (c .before .before .before .before .before .before .before .before .named .result) d (g .is-sound) (c .before .before .before .before .before .before .before .before .named .ensures) (c .before .before .before .before .before .decide .ensures) in
-    let p = c .before .before .before .d4 .given .0 .0 in
-    let (ready, i, up) = accepts (Crash p) (systemOf s) (taken list bytes old s₀ from s at size buffer g inside d m (Crash p) (ap meaning (c .before .before .before .d4 .given .1)) .1) in
-    omega (arith, i .low, i .high, sound-of (systemOf s) (g .is-sound) ready .n-high)
+    let x = c .before .before .before .before .before in
+    let (ready, i, up) = accepted x _ (ap meaning (c .before .before .before .d4 .given .1)) in
+    omega (arith, i .low, i .high, is x ready .n-high)
 
 place-of-requires : tie.Need-place-of-requires Inv-loop2 μ-loop2 Inv-loop μ-loop
 place-of-requires c κs =
-    let s = c .before .before .before .before .before .before .before .before .before .loop .s in
-    let at = c .before .before .before .before .before .before .before .before .before .loop .at in
-    let size = c .before .before .before .before .before .before .before .before .before .loop .size in
-    let buffer = c .before .before .before .before .before .before .before .before .before .loop .buffer in
-    let bytes = c .before .before .before .before .before .before .before .before .before .before .before .before .before .args .bytes .now in
-    let list = c .before .before .before .before .before .before .before .before .before .before .before .before .before .args .list in
-    let old = c .before .before .before .before .before .before .before .before .before .before .before .before .before .args .buffer .now in
-    let s₀ = systemOf (c .before .before .before .before .before .before .before .before .before .before .before .before .before .args .t1) in
-    let from = c .before .before .before .before .before .before .before .before .before .before .before .before .before .args .from in
-    let g = c .before .before .before .before .before .before .before .before .before .loop .inv .1 in
-    let inside = c .before .before .before .before .before .before .before .before .loop-test .taken in
-    let d = c .before .before .before .decide .result in
-    let m = decided-of s bytes at (c .before .before .before .before .before .before .named .result) d (g .is-sound) (c .before .before .before .before .before .before .named .ensures) (c .before .before .before .decide .ensures) in
-    let p = c .before .d5 .given .0 .0 in
-    let q = c .before .d5 .given .0 .1 .0 in
-    let x = c .before .d5 .given .0 .1 .1 .0 in
-    let (ready, i, j, ne, short) = accepts (Link p q x) (systemOf s) (taken list bytes old s₀ from s at size buffer g inside d m (Link p q x) (ap meaning (c .before .d5 .given .1)) .1) in
-    let is = sound-of (systemOf s) (g .is-sound) ready in
-    (i .low, omega (arith, i .high, is .n-high), j .low, omega (arith, j .high, is .n-high))
+    let x = c .before .before .before in
+    let (ready, i, j, ne, short) = accepted x _ (ap meaning (c .before .d5 .given .1)) in
+    (i .low, omega (arith, i .high, is x ready .n-high), j .low, omega (arith, j .high, is x ready .n-high))
 
 run-requires : tie.Need-run-requires Inv-loop2 μ-loop2 Inv-loop μ-loop
 run-requires c κs =
-    let s = c .before .before .before .before .before .before .before .before .before .loop .s in
-    let at = c .before .before .before .before .before .before .before .before .before .loop .at in
-    let size = c .before .before .before .before .before .before .before .before .before .loop .size in
-    let buffer = c .before .before .before .before .before .before .before .before .before .loop .buffer in
-    let bytes = c .before .before .before .before .before .before .before .before .before .before .before .before .before .args .bytes .now in
-    let list = c .before .before .before .before .before .before .before .before .before .before .before .before .before .args .list in
-    let old = c .before .before .before .before .before .before .before .before .before .before .before .before .before .args .buffer .now in
-    let s₀ = systemOf (c .before .before .before .before .before .before .before .before .before .before .before .before .before .args .t1) in
-    let from = c .before .before .before .before .before .before .before .before .before .before .before .before .before .args .from in
-    let g = c .before .before .before .before .before .before .before .before .before .loop .inv .1 in
-    let inside = c .before .before .before .before .before .before .before .before .loop-test .taken in
-    let d = c .before .before .before .decide .result in
-    let m = decided-of s bytes at (c .before .before .before .before .before .before .named .result) d (g .is-sound) (c .before .before .before .before .before .before .named .ensures) (c .before .before .before .decide .ensures) in
-    let t = c .before .d6 .given .0 .0 in
-    let (ready, some, room) = accepts (Run t) (systemOf s) (taken list bytes old s₀ from s at size buffer g inside d m (Run t) (ap meaning (c .before .d6 .given .1)) .1) in
-    (g .is-sound, ready, room)
+    let x = c .before .before .before in
+    let (ready, some, room) = accepted x _ (ap meaning (c .before .d6 .given .1)) in
+    (g x .is-sound, ready, room)
 
 place-of-requires-2 : tie.Need-place-of-requires-2 Inv-loop2 μ-loop2 Inv-loop μ-loop
 place-of-requires-2 c κs =
-    let s = c .before .before .before .before .before .before .before .before .before .loop .s in
-    let at = c .before .before .before .before .before .before .before .before .before .loop .at in
-    let size = c .before .before .before .before .before .before .before .before .before .loop .size in
-    let buffer = c .before .before .before .before .before .before .before .before .before .loop .buffer in
-    let bytes = c .before .before .before .before .before .before .before .before .before .before .before .before .before .args .bytes .now in
-    let list = c .before .before .before .before .before .before .before .before .before .before .before .before .before .args .list in
-    let old = c .before .before .before .before .before .before .before .before .before .before .before .before .before .args .buffer .now in
-    let s₀ = systemOf (c .before .before .before .before .before .before .before .before .before .before .before .before .before .args .t1) in
-    let from = c .before .before .before .before .before .before .before .before .before .before .before .before .before .args .from in
-    let g = c .before .before .before .before .before .before .before .before .before .loop .inv .1 in
-    let inside = c .before .before .before .before .before .before .before .before .loop-test .taken in
-    let d = c .before .before .before .decide .result in
-    let m = decided-of s bytes at (c .before .before .before .before .before .before .named .result) d (g .is-sound) (c .before .before .before .before .before .before .named .ensures) (c .before .before .before .decide .ensures) in
-    let p = c .before .d7 .given .0 .0 in
-    let q = c .before .d7 .given .0 .1 .0 in
-    let (ready, i, j, ne) = accepts (Lose p q) (systemOf s) (taken list bytes old s₀ from s at size buffer g inside d m (Lose p q) (ap meaning (c .before .d7 .given .1)) .1) in
-    let is = sound-of (systemOf s) (g .is-sound) ready in
-    (i .low, omega (arith, i .high, is .n-high), j .low, omega (arith, j .high, is .n-high))
+    let x = c .before .before .before in
+    let (ready, i, j, ne) = accepted x _ (ap meaning (c .before .d7 .given .1)) in
+    (i .low, omega (arith, i .high, is x ready .n-high), j .low, omega (arith, j .high, is x ready .n-high))
 
 loop2-holds : tie.Need-loop2-holds Inv-loop2 μ-loop2 Inv-loop μ-loop
 loop2-holds c =
@@ -262,121 +163,71 @@ loop2-again c =
 
 returns-2 : tie.Need-returns-2 Inv-loop2 μ-loop2 Inv-loop μ-loop
 returns-2 c =
-    let s = c .before .before .before .before .before .before .before .before .before .before .loop .s in
-    let at = c .before .before .before .before .before .before .before .before .before .before .loop .at in
-    let size = c .before .before .before .before .before .before .before .before .before .before .loop .size in
-    let buffer = c .before .before .before .before .before .before .before .before .before .before .loop .buffer in
-    let bytes = c .before .before .before .before .before .before .before .before .before .before .before .before .before .before .args .bytes .now in
-    let list = c .before .before .before .before .before .before .before .before .before .before .before .before .before .before .args .list in
-    let old = c .before .before .before .before .before .before .before .before .before .before .before .before .before .before .args .buffer .now in
-    let s₀ = systemOf (c .before .before .before .before .before .before .before .before .before .before .before .before .before .before .args .t1) in
-    let from = c .before .before .before .before .before .before .before .before .before .before .before .before .before .before .args .from in
-    let g = c .before .before .before .before .before .before .before .before .before .before .loop .inv .1 in
-    let inside = c .before .before .before .before .before .before .before .before .before .loop-test .taken in
-    let d = c .before .before .before .before .decide .result in
-    let m = decided-of s bytes at (c .before .before .before .before .before .before .before .named .result) d (g .is-sound) (c .before .before .before .before .before .before .before .named .ensures) (c .before .before .before .before .decide .ensures) in
-    stops-full list bytes old s₀ from s at size buffer g inside d m Report (ap meaning (c .before .before .enum-told .given .1)) (rw (c .before .if1 .taken) refl) (omega (arith, c .if2 .taken, c .before .before .before .before .before .before .before .before .before .before .loop .inv .0))
+    let x = c .before .before .before .before in
+    stops-full (list x) (bytes x) (old x) (s₀ x) (from x) (s x) (at x) (size x) (buffer x) (g x) (inside x) (d x) (m x) Report (ap meaning (c .before .before .enum-told .given .1)) (rw (c .before .if1 .taken) refl) (omega (arith, c .if2 .taken, c .before .before .before .before .before .before .before .before .before .before .loop .inv .0))
 
 write-listing-requires : tie.Need-write-listing-requires Inv-loop2 μ-loop2 Inv-loop μ-loop
 write-listing-requires c κs =
-    let s = c .before .before .before .before .before .before .before .before .before .before .before .before .before .loop .s in
-    let at = c .before .before .before .before .before .before .before .before .before .before .before .before .before .loop .at in
-    let size = c .before .before .before .before .before .before .before .before .before .before .before .before .before .loop .size in
-    let buffer = c .before .before .before .before .before .before .before .before .before .before .before .before .before .loop .buffer in
-    let bytes = c .before .before .before .before .before .before .before .before .before .before .before .before .before .before .before .before .before .args .bytes .now in
-    let list = c .before .before .before .before .before .before .before .before .before .before .before .before .before .before .before .before .before .args .list in
-    let old = c .before .before .before .before .before .before .before .before .before .before .before .before .before .before .before .before .before .args .buffer .now in
-    let s₀ = systemOf (c .before .before .before .before .before .before .before .before .before .before .before .before .before .before .before .before .before .args .t1) in
-    let from = c .before .before .before .before .before .before .before .before .before .before .before .before .before .before .before .before .before .args .from in
-    let g = c .before .before .before .before .before .before .before .before .before .before .before .before .before .loop .inv .1 in
-    let inside = c .before .before .before .before .before .before .before .before .before .before .before .before .loop-test .taken in
-    let d = c .before .before .before .before .before .before .before .decide .result in
-    let m = decided-of s bytes at (c .before .before .before .before .before .before .before .before .before .before .named .result) d (g .is-sound) (c .before .before .before .before .before .before .before .before .before .before .named .ensures) (c .before .before .before .before .before .before .before .decide .ensures) in
-    let ready = accepts Report (systemOf s) (taken list bytes old s₀ from s at size buffer g inside d m Report (ap meaning (c .before .before .before .before .before .enum-told .given .1)) .1) in
-    let few = sound-of (systemOf s) (g .is-sound) ready .n-high in
-    (few, room-part (listing (systemOf s)) (g .wrote) (omega (arith, listing-room (systemOf s) few, c .before .before .before .if2 .left, g .wrote .count, same-size list bytes old s₀ from s at size buffer g, length-append (g .text) (listing (systemOf s)))))
+    let x = c .before .before .before .before .before .before .before in
+    let few = is x (accepted x Report (ap meaning (c .before .before .before .before .before .enum-told .given .1))) .n-high in
+    (few, room-part (listing (systemOf (s x))) (g x .wrote) (omega (arith, listing-room (systemOf (s x)) few, c .before .before .before .if2 .left, g x .wrote .count, same-size _ _ _ _ _ _ _ _ _ (g x), length-append (g x .text) (listing (systemOf (s x))))))
 
 add-size : tie.Need-add-size Inv-loop2 μ-loop2 Inv-loop μ-loop
 add-size c =
-    let s = c .before .before .before .before .before .before .before .before .before .before .before .before .before .before .before .before .loop .s in
-    let at = c .before .before .before .before .before .before .before .before .before .before .before .before .before .before .before .before .loop .at in
-    let size = c .before .before .before .before .before .before .before .before .before .before .before .before .before .before .before .before .loop .size in
-    let buffer = c .before .before .before .before .before .before .before .before .before .before .before .before .before .before .before .before .loop .buffer in
-    let bytes = c .before .before .before .before .before .before .before .before .before .before .before .before .before .before .before .before .before .before .before .before .args .bytes .now in
-    let list = c .before .before .before .before .before .before .before .before .before .before .before .before .before .before .before .before .before .before .before .before .args .list in
-    let old = c .before .before .before .before .before .before .before .before .before .before .before .before .before .before .before .before .before .before .before .before .args .buffer .now in
-    let s₀ = systemOf (c .before .before .before .before .before .before .before .before .before .before .before .before .before .before .before .before .before .before .before .before .args .t1) in
-    let from = c .before .before .before .before .before .before .before .before .before .before .before .before .before .before .before .before .before .before .before .before .args .from in
-    let g = c .before .before .before .before .before .before .before .before .before .before .before .before .before .before .before .before .loop .inv .1 in
-    let inside = c .before .before .before .before .before .before .before .before .before .before .before .before .before .before .before .loop-test .taken in
-    let d = c .before .before .before .before .before .before .before .before .before .before .decide .result in
-    let m = decided-of s bytes at (c .before .before .before .before .before .before .before .before .before .before .before .before .before .named .result) d (g .is-sound) (c .before .before .before .before .before .before .before .before .before .before .before .before .before .named .ensures) (c .before .before .before .before .before .before .before .before .before .before .decide .ensures) in
-    let ready = accepts Report (systemOf s) (taken list bytes old s₀ from s at size buffer g inside d m Report (ap meaning (c .before .before .before .before .before .before .before .before .enum-told .given .1)) .1) in
-    let fit = listing-room (systemOf s) (sound-of (systemOf s) (g .is-sound) ready .n-high) in
-    record { fits = omega (arith, c .before .before .write-listing .ensures .count, fit, c .before .before .before .before .before .before .if2 .left, c .before .before .before .before .before .before .before .before .before .before .before .before .before .before .before .before .loop .inv .0, g .fits, c .before .before .before .before .before .before .before .before .before .before .before .before .before .before .before .before .before .before .before .before .good .1 .1 .1 .1 .0 .0) }
+    let x = c .before .before .before .before .before .before .before .before .before .before in
+    let fit = listing-room (systemOf (s x)) (is x (accepted x Report (ap meaning (c .before .before .before .before .before .before .before .before .enum-told .given .1))) .n-high) in
+    record { fits = omega (arith, c .before .before .write-listing .ensures .count, fit, c .before .before .before .before .before .before .if2 .left, c .before .before .before .before .before .before .before .before .before .before .before .before .before .before .before .before .loop .inv .0, g x .fits, c .before .before .before .before .before .before .before .before .before .before .before .before .before .before .before .before .before .before .before .before .good .1 .1 .1 .1 .0 .0) }
 
 met : (c : tie.At-match-came Inv-loop2 μ-loop2 Inv-loop μ-loop) → (w : ℕ) → w ≡ operands (decode (getD (c .before .before .before .before .before .before .before .before .before .before .before .args .bytes .now) (c .before .before .before .before .before .before .before .loop .at) 0 ∷ [])) → (c .before .before .before .before .before .before .before .loop .at + (1 + w) ≤ length (c .before .before .before .before .before .before .before .before .before .before .before .args .bytes .now)) × (length (c .match .buffer) ≡ length (c .before .before .before .before .before .before .before .before .before .before .before .args .buffer .now)) × Going (c .before .before .before .before .before .before .before .before .before .before .before .args .list) (c .before .before .before .before .before .before .before .before .before .before .before .args .bytes .now) (c .before .before .before .before .before .before .before .before .before .before .before .args .buffer .now) (systemOf (c .before .before .before .before .before .before .before .before .before .before .before .args .t1)) (c .before .before .before .before .before .before .before .before .before .before .before .args .from) (c .match .s) (c .before .before .before .before .before .before .before .loop .at + (1 + w)) (c .match .size) (c .match .buffer)
 unfolding perform
 met c =
-    let s = c .before .before .before .before .before .before .before .loop .s in
-    let at = c .before .before .before .before .before .before .before .loop .at in
-    let size = c .before .before .before .before .before .before .before .loop .size in
-    let buffer = c .before .before .before .before .before .before .before .loop .buffer in
-    let bytes = c .before .before .before .before .before .before .before .before .before .before .before .args .bytes .now in
-    let list = c .before .before .before .before .before .before .before .before .before .before .before .args .list in
-    let old = c .before .before .before .before .before .before .before .before .before .before .before .args .buffer .now in
-    let s₀ = systemOf (c .before .before .before .before .before .before .before .before .before .before .before .args .t1) in
-    let from = c .before .before .before .before .before .before .before .before .before .before .before .args .from in
-    let g = c .before .before .before .before .before .before .before .loop .inv .1 in
-    let inside = c .before .before .before .before .before .before .loop-test .taken in
-    let d = c .before .decide .result in
-    let m = decided-of s bytes at (c .before .before .before .before .named .result) d (g .is-sound) (c .before .before .before .before .named .ensures) (c .before .decide .ensures) in
+    let x = c .before in
     let same = c .before .before .before .before .before .before .before .loop .inv .0 in
     λ w e.
     ⊎-elim
     (λ a.
-    let x = SetUp (a .1 .given .0 .0) (a .1 .given .0 .1 .0) in
+    let k = SetUp (a .1 .given .0 .0) (a .1 .given .0 .1 .0) in
     let t = ap meaning (a .1 .given .1) in
-    (inside-after list bytes old s₀ from s at size buffer g inside d m x t w e, ap length (a .5) ∙ same, further list bytes old s₀ from s at size buffer g inside d m x t w e (and-false list) _ _ _ (subst Wide (sym (a .6)) (record { used = simp length-map at (a .4 .ok .1 .1 .1 .1 .1 .1 .1 .1 .1 .0 .1 .0 .1); messages = simp length-map at (a .4 .ok .1 .1 .1 .1 .1 .1 .1 .1 .1 .1 .0 .1 .0 .1) })) (ap systemOf (a .6) ∙ a .4 .ensures ∙ ap (initial (a .1 .given .0 .0)) (a .3 .ensures)) (a .7) (a .5)))
+    (inside-after (list x) (bytes x) (old x) (s₀ x) (from x) (s x) (at x) (size x) (buffer x) (g x) (inside x) (d x) (m x) k t w e, ap length (a .5) ∙ same, further (list x) (bytes x) (old x) (s₀ x) (from x) (s x) (at x) (size x) (buffer x) (g x) (inside x) (d x) (m x) k t w e (and-false (list x)) _ _ _ (subst Wide (sym (a .6)) (record { used = simp length-map at (a .4 .ok .1 .1 .1 .1 .1 .1 .1 .1 .1 .0 .1 .0 .1); messages = simp length-map at (a .4 .ok .1 .1 .1 .1 .1 .1 .1 .1 .1 .1 .0 .1 .0 .1) })) (ap systemOf (a .6) ∙ a .4 .ensures ∙ ap (initial (a .1 .given .0 .0)) (a .3 .ensures)) (a .7) (a .5)))
     (⊎-elim
     (λ a.
     let p = a .1 .given .0 .0 in
     let t = ap meaning (a .1 .given .1) in
-    (inside-after list bytes old s₀ from s at size buffer g inside d m (Start p) t w e, ap length (a .5) ∙ same, further list bytes old s₀ from s at size buffer g inside d m (Start p) t w e (and-false list) _ _ _ (subst Wide (sym (a .6)) (record { used = g .wide .used; messages = g .wide .messages })) (station-stored s _ p _ (a .6) ∙ ap (λ (x : Station). withStation p x (systemOf s)) (a .4 .ensures)) (a .7) (a .5)))
+    (inside-after (list x) (bytes x) (old x) (s₀ x) (from x) (s x) (at x) (size x) (buffer x) (g x) (inside x) (d x) (m x) (Start p) t w e, ap length (a .5) ∙ same, further (list x) (bytes x) (old x) (s₀ x) (from x) (s x) (at x) (size x) (buffer x) (g x) (inside x) (d x) (m x) (Start p) t w e (and-false (list x)) _ _ _ (subst Wide (sym (a .6)) (record { used = g x .wide .used; messages = g x .wide .messages })) (station-stored (s x) _ p _ (a .6) ∙ ap (λ (y : Station). withStation p y (systemOf (s x))) (a .4 .ensures)) (a .7) (a .5)))
     (⊎-elim
     (λ a.
     let p = a .1 .given .0 .0 in
     let t = ap meaning (a .1 .given .1) in
-    (inside-after list bytes old s₀ from s at size buffer g inside d m (Crash p) t w e, ap length (a .5) ∙ same, further list bytes old s₀ from s at size buffer g inside d m (Crash p) t w e (and-false list) _ _ _ (subst Wide (sym (a .6)) (record { used = g .wide .used; messages = g .wide .messages })) (station-stored s _ p _ (a .6) ∙ ap (λ (x : Station). withStation p x (systemOf s)) (a .4 .ensures)) (a .7) (a .5)))
-    (⊎-elim
-    (λ a.
-    let p = a .1 .given .0 .0 in
-    let q = a .1 .given .0 .1 .0 in
-    let x = a .1 .given .0 .1 .1 .0 in
-    let t = ap meaning (a .1 .given .1) in
-    (inside-after list bytes old s₀ from s at size buffer g inside d m (Link p q x) t w e, ap length (a .4) ∙ same, further list bytes old s₀ from s at size buffer g inside d m (Link p q x) t w e (and-false list) _ _ _ (subst Wide (sym (a .5)) (record { used = g .wide .used; messages = g .wide .messages })) (delay-stored s _ _ p q x (a .3 .ensures .0) (a .5)) (a .6) (a .4)))
-    (⊎-elim
-    (λ a.
-    let x = Run (a .1 .given .0 .0) in
-    let t = ap meaning (a .1 .given .1) in
-    (inside-after list bytes old s₀ from s at size buffer g inside d m x t w e, ap length (a .4) ∙ same, further list bytes old s₀ from s at size buffer g inside d m x t w e (and-false list) _ _ _ (subst Wide (sym (a .5)) (record { used = simp length-map at (a .3 .ok .1 .1 .1 .1 .1 .1 .1 .1 .1 .0 .1 .0 .1); messages = simp length-map at (a .3 .ok .1 .1 .1 .1 .1 .1 .1 .1 .1 .1 .0 .1 .0 .1) })) (ap systemOf (a .5) ∙ a .3 .ensures) (a .6) (a .4)))
+    (inside-after (list x) (bytes x) (old x) (s₀ x) (from x) (s x) (at x) (size x) (buffer x) (g x) (inside x) (d x) (m x) (Crash p) t w e, ap length (a .5) ∙ same, further (list x) (bytes x) (old x) (s₀ x) (from x) (s x) (at x) (size x) (buffer x) (g x) (inside x) (d x) (m x) (Crash p) t w e (and-false (list x)) _ _ _ (subst Wide (sym (a .6)) (record { used = g x .wide .used; messages = g x .wide .messages })) (station-stored (s x) _ p _ (a .6) ∙ ap (λ (y : Station). withStation p y (systemOf (s x))) (a .4 .ensures)) (a .7) (a .5)))
     (⊎-elim
     (λ a.
     let p = a .1 .given .0 .0 in
     let q = a .1 .given .0 .1 .0 in
+    let y = a .1 .given .0 .1 .1 .0 in
     let t = ap meaning (a .1 .given .1) in
-    let (wide, stored) = messages-stored s (a .4 .s) _ _ p q (a .4 .i) (a .3 .ensures .0) (a .3 .ensures .1) (g .wide) (a .4 .inv .2) (omega (arith, a .4 .inv .0, a .5 .left)) (a .7) in
-    (inside-after list bytes old s₀ from s at size buffer g inside d m (Lose p q) t w e, ap length (a .6) ∙ same, further list bytes old s₀ from s at size buffer g inside d m (Lose p q) t w e (and-false list) _ _ _ wide stored (a .8) (a .6)))
+    (inside-after (list x) (bytes x) (old x) (s₀ x) (from x) (s x) (at x) (size x) (buffer x) (g x) (inside x) (d x) (m x) (Link p q y) t w e, ap length (a .4) ∙ same, further (list x) (bytes x) (old x) (s₀ x) (from x) (s x) (at x) (size x) (buffer x) (g x) (inside x) (d x) (m x) (Link p q y) t w e (and-false (list x)) _ _ _ (subst Wide (sym (a .5)) (record { used = g x .wide .used; messages = g x .wide .messages })) (delay-stored (s x) _ _ p q y (a .3 .ensures .0) (a .5)) (a .6) (a .4)))
+    (⊎-elim
+    (λ a.
+    let k = Run (a .1 .given .0 .0) in
+    let t = ap meaning (a .1 .given .1) in
+    (inside-after (list x) (bytes x) (old x) (s₀ x) (from x) (s x) (at x) (size x) (buffer x) (g x) (inside x) (d x) (m x) k t w e, ap length (a .4) ∙ same, further (list x) (bytes x) (old x) (s₀ x) (from x) (s x) (at x) (size x) (buffer x) (g x) (inside x) (d x) (m x) k t w e (and-false (list x)) _ _ _ (subst Wide (sym (a .5)) (record { used = simp length-map at (a .3 .ok .1 .1 .1 .1 .1 .1 .1 .1 .1 .0 .1 .0 .1); messages = simp length-map at (a .3 .ok .1 .1 .1 .1 .1 .1 .1 .1 .1 .1 .0 .1 .0 .1) })) (ap systemOf (a .5) ∙ a .3 .ensures) (a .6) (a .4)))
+    (⊎-elim
+    (λ a.
+    let p = a .1 .given .0 .0 in
+    let q = a .1 .given .0 .1 .0 in
+    let t = ap meaning (a .1 .given .1) in
+    let (wide, stored) = messages-stored (s x) (a .4 .s) _ _ p q (a .4 .i) (a .3 .ensures .0) (a .3 .ensures .1) (g x .wide) (a .4 .inv .2) (omega (arith, a .4 .inv .0, a .5 .left)) (a .7) in
+    (inside-after (list x) (bytes x) (old x) (s₀ x) (from x) (s x) (at x) (size x) (buffer x) (g x) (inside x) (d x) (m x) (Lose p q) t w e, ap length (a .6) ∙ same, further (list x) (bytes x) (old x) (s₀ x) (from x) (s x) (at x) (size x) (buffer x) (g x) (inside x) (d x) (m x) (Lose p q) t w e (and-false (list x)) _ _ _ wide stored (a .8) (a .6)))
     (⊎-elim
     (λ a.
     let t = ap meaning (a .1 .given .1) in
-    let ready = accepts Report (systemOf s) (taken list bytes old s₀ from s at size buffer g inside d m Report t .1) in
-    let fit = listing-room (systemOf s) (sound-of (systemOf s) (g .is-sound) ready .n-high) in
-    let on = subst (λ z. Going list bytes old s₀ from z (at + (1 + w)) (c .match .size) (c .match .buffer)) (sym (a .11)) (listed list bytes old s₀ from s at size buffer g inside d m Report t w e (rw (a .2 .taken) refl) (omega (arith, a .3 .left, same)) _ _ _ _ fit (a .7 .ensures) (a .12) (a .10) refl) in
-    (inside-after list bytes old s₀ from s at size buffer g inside d m Report t w e, same-size list bytes old s₀ from (c .match .s) (at + (1 + w)) (c .match .size) (c .match .buffer) on, on))
+    let ready = accepts Report (systemOf (s x)) (taken (list x) (bytes x) (old x) (s₀ x) (from x) (s x) (at x) (size x) (buffer x) (g x) (inside x) (d x) (m x) Report t .1) in
+    let fit = listing-room (systemOf (s x)) (sound-of (systemOf (s x)) (g x .is-sound) ready .n-high) in
+    let on = subst (λ z. Going (list x) (bytes x) (old x) (s₀ x) (from x) z (at x + (1 + w)) (c .match .size) (c .match .buffer)) (sym (a .11)) (listed (list x) (bytes x) (old x) (s₀ x) (from x) (s x) (at x) (size x) (buffer x) (g x) (inside x) (d x) (m x) Report t w e (rw (a .2 .taken) refl) (omega (arith, a .3 .left, same)) _ _ _ _ fit (a .7 .ensures) (a .12) (a .10) refl) in
+    (inside-after (list x) (bytes x) (old x) (s₀ x) (from x) (s x) (at x) (size x) (buffer x) (g x) (inside x) (d x) (m x) Report t w e, same-size (list x) (bytes x) (old x) (s₀ x) (from x) (c .match .s) (at x + (1 + w)) (c .match .size) (c .match .buffer) on, on))
     (λ a.
     let t = ap meaning (a .1 .given .1) in
-    (inside-after list bytes old s₀ from s at size buffer g inside d m Report t w e, ap length (a .3) ∙ same, further list bytes old s₀ from s at size buffer g inside d m Report t w e (rw (a .2 .left) refl) _ _ _ (subst Wide (sym (a .4)) (g .wide)) (ap systemOf (a .4)) (a .5) (a .3)))))))))
+    (inside-after (list x) (bytes x) (old x) (s₀ x) (from x) (s x) (at x) (size x) (buffer x) (g x) (inside x) (d x) (m x) Report t w e, ap length (a .3) ∙ same, further (list x) (bytes x) (old x) (s₀ x) (from x) (s x) (at x) (size x) (buffer x) (g x) (inside x) (d x) (m x) Report t w e (rw (a .2 .left) refl) _ _ _ (subst Wide (sym (a .4)) (g x .wide)) (ap systemOf (a .4)) (a .5) (a .3)))))))))
     (c .match .came)
 
 add-at : tie.Need-add-at Inv-loop2 μ-loop2 Inv-loop μ-loop
