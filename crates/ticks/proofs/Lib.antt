@@ -3,6 +3,7 @@ pub mod After
 pub mod Chances
 pub mod Hearing
 pub mod InPlace
+pub mod Indices
 pub mod Quiet
 pub mod Ready
 pub mod Run

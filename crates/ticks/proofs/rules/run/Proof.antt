@@ -22,6 +22,7 @@ use Rattle.election.proofs.Soundness.{sound-of}
 use Rattle.ticks.proofs.Chances.{Chances, chances-first, chances-station, chances-says, chances-late, chances-n, chances-period, chances-sent, chances-skips, chances-free, chances-sends, chances-done, Turn, turn-ends, turn-stays, turn-sends, turn-rests, turn-slots, turn-waits}
 use Rattle.ticks.proofs.Hearing.{Hearing, hearing-none, hearing-tick, hearing-ready, hearing-row, hearing-rests, timer-ready}
 use Rattle.ticks.proofs.InPlace.{Packing, packing-none, packing-read, packing-keeps, packing-drops, Heard, heard-first, heard-waits, heard-due, heard-down, Beside, beside-none, beside-stores}
+use Rattle.ticks.proofs.Indices.{Number, Ends, Place, number-of, ends-of, place-of, place-before, number-fits, name-fits, next-number-fits, row-fits, station-fits, sent-fits, link-low, link-fits, places-fit, place-low, place-fits, message-fits, next-place-fits, left-falls, tick-fits}
 use Rattle.ticks.proofs.Run.{Going, going-first, going-done, going-ticking, going-on}
 use Rattle.ticks.proofs.Silent.{Silent, silent-none, silent-marks, silent-leaves, silent-row, silent-stores, silent-sets, silent-sends, Gone, gone-more, gone-stores}
 use Rattle.ticks.proofs.Taken.{Taken, taken-none, taken-row, taken-rests, none-before, taken-few, taken-skips, link-used-is, link-wide, link-taken, link-heard, none-heard}
@@ -89,6 +90,33 @@ Inv-loop3 t s₀ end n empty busy₀ s busy = (n ≤ 8) × (end ≤ lastTick) ×
 
 abbrev μ-loop3 : tie.MeasureT-loop3
 μ-loop3 t s₀ end n empty busy₀ s busy = end - s .tick
+
+-- the links that are marked, and of the sender and the receiver that are on
+marked-link : (c : tie.In-loop2 Inv-loop2 μ-loop2 Inv-loop μ-loop Inv-loop6 μ-loop6 Inv-loop7 μ-loop7 Inv-loop5 μ-loop5 Inv-loop4 μ-loop4 Inv-loop9 μ-loop9 Inv-loop8 μ-loop8 Inv-loop3 μ-loop3) → Ends (c .before .before .before .loop .q) (c .before .loop2 .p)
+marked-link c = ends-of _ _ _ (c .before .before .before .loop .inv .0) (c .before .before .loop-test .taken) (c .loop2-test .taken)
+
+sender : (c : tie.In-loop4 Inv-loop2 μ-loop2 Inv-loop μ-loop Inv-loop6 μ-loop6 Inv-loop7 μ-loop7 Inv-loop5 μ-loop5 Inv-loop4 μ-loop4 Inv-loop9 μ-loop9 Inv-loop8 μ-loop8 Inv-loop3 μ-loop3) → Number (c .before .loop4 .q)
+sender c = number-of _ _ (c .before .before .before .loop3 .inv .0) (c .loop4-test .taken)
+
+link : (c : tie.In-loop5 Inv-loop2 μ-loop2 Inv-loop μ-loop Inv-loop6 μ-loop6 Inv-loop7 μ-loop7 Inv-loop5 μ-loop5 Inv-loop4 μ-loop4 Inv-loop9 μ-loop9 Inv-loop8 μ-loop8 Inv-loop3 μ-loop3) → Ends (c .before .before .before .before .loop4 .q) (c .before .loop5 .p)
+link c = ends-of _ _ _ (c .before .before .before .before .before .before .loop3 .inv .0) (c .before .before .before .loop4-test .taken) (c .loop5-test .taken)
+
+-- the places of a message that is read, that is kept and that is cleared
+place : (c : tie.In-loop6 Inv-loop2 μ-loop2 Inv-loop μ-loop Inv-loop6 μ-loop6 Inv-loop7 μ-loop7 Inv-loop5 μ-loop5 Inv-loop4 μ-loop4 Inv-loop9 μ-loop9 Inv-loop8 μ-loop8 Inv-loop3 μ-loop3) → Place (c .before .before .before .before .before .before .before .before .before .loop4 .q) (c .before .before .before .before .before .before .loop5 .p) (c .before .loop6 .i)
+place c = place-of _ _ _ _ (link (c .before .before .before .before .before)) (c .loop6-test .taken) (c .before .loop6 .inv .1)
+
+packed-place : (c : tie.In-loop6 Inv-loop2 μ-loop2 Inv-loop μ-loop Inv-loop6 μ-loop6 Inv-loop7 μ-loop7 Inv-loop5 μ-loop5 Inv-loop4 μ-loop4 Inv-loop9 μ-loop9 Inv-loop8 μ-loop8 Inv-loop3 μ-loop3) → Place (c .before .before .before .before .before .before .before .before .before .loop4 .q) (c .before .before .before .before .before .before .loop5 .p) (c .before .loop6 .to)
+packed-place c = place-before (place c) _ (c .before .loop6 .inv .4)
+
+cleared-place : (c : tie.In-loop7 Inv-loop2 μ-loop2 Inv-loop μ-loop Inv-loop6 μ-loop6 Inv-loop7 μ-loop7 Inv-loop5 μ-loop5 Inv-loop4 μ-loop4 Inv-loop9 μ-loop9 Inv-loop8 μ-loop8 Inv-loop3 μ-loop3) → Place (c .before .before .before .before .before .before .before .before .before .before .before .loop4 .q) (c .before .before .before .before .before .before .before .before .loop5 .p) (c .before .loop7 .j)
+cleared-place c = place-of _ _ _ _ (link (c .before .before .before .before .before .before .before)) (c .loop7-test .taken) (c .before .loop7 .inv .2)
+
+-- the station whose chance it is, and the link that it sends over
+station : (c : tie.In-loop8 Inv-loop2 μ-loop2 Inv-loop μ-loop Inv-loop6 μ-loop6 Inv-loop7 μ-loop7 Inv-loop5 μ-loop5 Inv-loop4 μ-loop4 Inv-loop9 μ-loop9 Inv-loop8 μ-loop8 Inv-loop3 μ-loop3) → Number (c .before .loop8 .p)
+station c = number-of _ _ (c .before .before .before .before .before .loop3 .inv .0) (c .loop8-test .taken)
+
+way : (c : tie.In-loop9 Inv-loop2 μ-loop2 Inv-loop μ-loop Inv-loop6 μ-loop6 Inv-loop7 μ-loop7 Inv-loop5 μ-loop5 Inv-loop4 μ-loop4 Inv-loop9 μ-loop9 Inv-loop8 μ-loop8 Inv-loop3 μ-loop3) → Ends (c .before .before .before .before .before .before .before .before .before .before .before .before .loop8 .p) (c .before .loop9 .q)
+way c = ends-of _ _ _ (c .before .before .before .before .before .before .before .before .before .before .before .before .before .before .before .before .loop3 .inv .0) (c .before .before .before .before .before .before .before .before .before .before .before .loop8-test .taken) (c .loop9-test .taken)
 
 loop-holds : tie.Need-loop-holds Inv-loop2 μ-loop2 Inv-loop μ-loop Inv-loop6 μ-loop6 Inv-loop7 μ-loop7 Inv-loop5 μ-loop5 Inv-loop4 μ-loop4 Inv-loop9 μ-loop9 Inv-loop8 μ-loop8 Inv-loop3 μ-loop3
 loop-holds c =
@@ -160,9 +188,6 @@ loop6-holds c =
     let k = 8 * q + p in
     let hk : k < 64 = omega (arith, i .0, hp, hq) in
     (search needs, omega (arith, taken-few n now r _ _ p q (i .0) hp hq gone, used-read x k hk, c .before .count .ensures), i5 .1, omega arith, omega arith, packing-none _ _ _ _ (i5 .3), heard-first _ _ _ _ _, beside-none _ _, λ e. (e, refl))
-
-element-copy-out-m : tie.Need-element-copy-out-m Inv-loop2 μ-loop2 Inv-loop μ-loop Inv-loop6 μ-loop6 Inv-loop7 μ-loop7 Inv-loop5 μ-loop5 Inv-loop4 μ-loop4 Inv-loop9 μ-loop9 Inv-loop8 μ-loop8 Inv-loop3 μ-loop3
-element-copy-out-m c = search needs
 
 hear-requires : tie.Need-hear-requires Inv-loop2 μ-loop2 Inv-loop μ-loop Inv-loop6 μ-loop6 Inv-loop7 μ-loop7 Inv-loop5 μ-loop5 Inv-loop4 μ-loop4 Inv-loop9 μ-loop9 Inv-loop8 μ-loop8 Inv-loop3 μ-loop3
 hear-requires c κs =
@@ -383,9 +408,6 @@ loop9-holds c =
     let z : 8 * p + 0 ≡ 8 * p = omega arith in
     (search needs, i8 .1, ch .high, ch .wide, silent-sends n _ _ _ hn (ch .silent) p hp8, getD-set-same (c .before .before .before .before .before .before .before .before .before .before .loop8 .busy) p true false (omega (arith, ch .silent .long, hp8)), λ σ₁ a. rw z a)
 
-element-copy-out-count-2 : tie.Need-element-copy-out-count-2 Inv-loop2 μ-loop2 Inv-loop μ-loop Inv-loop6 μ-loop6 Inv-loop7 μ-loop7 Inv-loop5 μ-loop5 Inv-loop4 μ-loop4 Inv-loop9 μ-loop9 Inv-loop8 μ-loop8 Inv-loop3 μ-loop3
-element-copy-out-count-2 c = search needs
-
 add-due-2 : tie.Need-add-due-2 Inv-loop2 μ-loop2 Inv-loop μ-loop Inv-loop6 μ-loop6 Inv-loop7 μ-loop7 Inv-loop5 μ-loop5 Inv-loop4 μ-loop4 Inv-loop9 μ-loop9 Inv-loop8 μ-loop8 Inv-loop3 μ-loop3
 add-due-2 c =
     omega (arith, c .before .before .before .ticks-of .ensures .1, c .before .before .before .before .before .before .before .before .before .before .before .before .before .before .before .before .before .before .before .before .before .loop3 .inv .1, c .before .before .before .before .before .before .before .before .before .before .before .before .before .before .before .before .before .before .before .before .loop3-test .taken)
@@ -471,9 +493,6 @@ element-set-from-s-4 c =
     let free = chances-free n now σ until x p hp q hq (i9 .6 σ (ch .chances)) _ (c .before .before .before .ticks-of .ensures .0) (i9 .3) (c .before .before .if9 .taken) (sym says ∙ c .before .before .before .before .before .before .before .before .before .if8 .taken) _ (ap (λ (z : Station). z .recovered) (chances-station n now σ _ _ p p _ (ch .chances) hp)) _ (c .count2 .ensures) in
     omega (arith, free, hk)
 
-element-copy-out-s-2 : tie.Need-element-copy-out-s-2 Inv-loop2 μ-loop2 Inv-loop μ-loop Inv-loop6 μ-loop6 Inv-loop7 μ-loop7 Inv-loop5 μ-loop5 Inv-loop4 μ-loop4 Inv-loop9 μ-loop9 Inv-loop8 μ-loop8 Inv-loop3 μ-loop3
-element-copy-out-s-2 c = search needs
-
 add-s-2 : tie.Need-add-s-2 Inv-loop2 μ-loop2 Inv-loop μ-loop Inv-loop6 μ-loop6 Inv-loop7 μ-loop7 Inv-loop5 μ-loop5 Inv-loop4 μ-loop4 Inv-loop9 μ-loop9 Inv-loop8 μ-loop8 Inv-loop3 μ-loop3
 add-s-2 c =
     let n = c .before .before .before .before .before .before .before .before .before .before .before .before .before .before .before .before .before .before .before .before .before .before .before .before .before .before .args .t2 .n in
@@ -498,15 +517,6 @@ add-s-2 c =
     let says = chances-says n now σ _ _ p p _ (ch .chances) hp _ (c .before .before .before .before .before .before .before .before .before .before .before .sends-now .ensures) in
     let free = chances-free n now σ until x p hp q hq (i9 .6 σ (ch .chances)) _ (c .before .before .before .before .ticks-of .ensures .0) (i9 .3) (c .before .before .before .if9 .taken) (sym says ∙ c .before .before .before .before .before .before .before .before .before .before .if8 .taken) _ (ap (λ (z : Station). z .recovered) (chances-station n now σ _ _ p p _ (ch .chances) hp)) _ (c .before .count2 .ensures) in
     omega (arith, free, c .before .count2 .ensures)
-
-element-write-s-2 : tie.Need-element-write-s-2 Inv-loop2 μ-loop2 Inv-loop μ-loop Inv-loop6 μ-loop6 Inv-loop7 μ-loop7 Inv-loop5 μ-loop5 Inv-loop4 μ-loop4 Inv-loop9 μ-loop9 Inv-loop8 μ-loop8 Inv-loop3 μ-loop3
-element-write-s-2 c = search needs
-
-add-q-3 : tie.Need-add-q-3 Inv-loop2 μ-loop2 Inv-loop μ-loop Inv-loop6 μ-loop6 Inv-loop7 μ-loop7 Inv-loop5 μ-loop5 Inv-loop4 μ-loop4 Inv-loop9 μ-loop9 Inv-loop8 μ-loop8 Inv-loop3 μ-loop3
-add-q-3 c = search needs
-
-loop9-less : tie.Need-loop9-less Inv-loop2 μ-loop2 Inv-loop μ-loop Inv-loop6 μ-loop6 Inv-loop7 μ-loop7 Inv-loop5 μ-loop5 Inv-loop4 μ-loop4 Inv-loop9 μ-loop9 Inv-loop8 μ-loop8 Inv-loop3 μ-loop3
-loop9-less c = search needs
 
 loop9-again : tie.Need-loop9-again Inv-loop2 μ-loop2 Inv-loop μ-loop Inv-loop6 μ-loop6 Inv-loop7 μ-loop7 Inv-loop5 μ-loop5 Inv-loop4 μ-loop4 Inv-loop9 μ-loop9 Inv-loop8 μ-loop8 Inv-loop3 μ-loop3
 loop9-again c =
@@ -690,130 +700,130 @@ run-spec =
     (λ c κs. search needs)
     loop-holds
     loop2-holds
-    (λ c. search needs)
-    (λ c. search needs)
-    (λ c. search needs)
-    (λ c. search needs)
-    (λ c. search needs)
-    (λ c. search needs)
+    (λ c. row-fits (marked-link c .from))
+    (λ c. link-fits (marked-link c))
+    (λ c. link-low (marked-link c))
+    (λ c. marked-link (c .before .before) .from .low)
+    (λ c. next-number-fits (marked-link (c .before .before) .to))
+    (λ c. left-falls _ _ (c .before .before .loop2-test .taken))
     loop2-again
-    (λ c. search needs)
-    (λ c. search needs)
+    (λ c. next-number-fits (number-of _ _ (c .before .before .before .loop .inv .0) (c .before .before .loop-test .taken)))
+    (λ c. left-falls _ _ (c .before .before .loop-test .taken))
     loop-again
     loop3-holds
-    (λ c. search needs)
+    (λ c. tick-fits _ _ (c .loop3-test .taken) (c .before .loop3 .inv .1))
     loop4-holds
-    (λ c. search needs)
+    (λ c. sender c .low)
     loop5-holds
-    (λ c. search needs)
-    (λ c. search needs)
-    (λ c. search needs)
+    (λ c. row-fits (link c .from))
+    (λ c. link-fits (link c))
+    (λ c. link-low (link c))
     (λ c κs. search needs)
     loop6-holds
+    (λ c. places-fit (link (c .before .before .before .before .before)))
+    (λ c. place-fits (place c))
+    (λ c. message-fits (place c))
+    (λ c. place-low (place c))
+    (λ c κs. c .before .before .loop6 .inv .2)
+    (λ c. places-fit (link (c .before .before .before .before .before .before .before)))
+    (λ c. place-fits (place (c .before .before)))
+    (λ c. message-fits (place (c .before .before)))
+    (λ c. place-low (place (c .before .before)))
+    (λ c. places-fit (link (c .before .before .before .before .before .before .before .before)))
     (λ c. search needs)
     (λ c. search needs)
     (λ c. search needs)
-    (λ c. search needs)
-    (λ c κs. search needs)
-    (λ c. search needs)
-    (λ c. search needs)
-    (λ c. search needs)
-    (λ c. search needs)
-    (λ c. search needs)
-    (λ c. search needs)
-    (λ c. search needs)
-    (λ c. search needs)
-    (λ c. search needs)
-    (λ c. search needs)
-    (λ c. search needs)
-    (λ c. search needs)
-    (λ c. search needs)
-    (λ c. search needs)
-    element-copy-out-m
-    (λ c. search needs)
-    (λ c. search needs)
-    (λ c. search needs)
-    (λ c. search needs)
-    (λ c. search needs)
-    (λ c. search needs)
+    (λ c. next-place-fits (packed-place (c .before .before .before)))
+    (λ c. station-fits (link (c .before .before .before .before .before .before) .to))
+    (λ c. link (c .before .before .before .before .before .before) .to .low)
+    (λ c. places-fit (link (c .before .before .before .before .before .before .before)))
+    (λ c. place-fits (place (c .before .before)))
+    (λ c. message-fits (place (c .before .before)))
+    (λ c. place-low (place (c .before .before)))
+    (λ c. number-fits (link (c .before .before .before .before .before .before .before .before .before) .to))
+    (λ c. name-fits (link (c .before .before .before .before .before .before .before .before .before) .to))
+    (λ c. number-fits (link (c .before .before .before .before .before .before .before .before .before) .from))
+    (λ c. name-fits (link (c .before .before .before .before .before .before .before .before .before) .from))
+    (λ c. station-fits (link (c .before .before .before .before .before .before .before .before .before) .to))
+    (λ c. link (c .before .before .before .before .before .before .before .before .before) .to .low)
     hear-requires
-    (λ c. search needs)
-    (λ c. search needs)
-    (λ c. search needs)
-    (λ c. search needs)
+    (λ c. station-fits (link (c .before .before .before .before .before .before .before .before .before .before .before) .to))
+    (λ c. link (c .before .before .before .before .before .before .before .before .before .before .before) .to .low)
+    (λ c. next-place-fits (place (c .before)))
+    (λ c. left-falls _ _ (c .before .loop6-test .taken))
     loop6-again
     loop7-holds
-    (λ c. search needs)
-    (λ c. search needs)
-    (λ c. search needs)
-    (λ c. search needs)
-    (λ c. search needs)
-    (λ c. search needs)
+    (λ c. places-fit (link (c .before .before .before .before .before .before .before)))
+    (λ c. place-fits (cleared-place c))
+    (λ c. message-fits (cleared-place c))
+    (λ c. place-low (cleared-place c))
+    (λ c. next-place-fits (cleared-place c))
+    (λ c. left-falls _ _ (c .loop7-test .taken))
     loop7-again
     (λ c. search needs)
-    (λ c. search needs)
-    (λ c. search needs)
-    (λ c. search needs)
+    (λ c. link-low (link (c .before .before .before .before .before .before .before)))
+    (λ c. next-number-fits (link (c .before .before .before) .to))
+    (λ c. left-falls _ _ (c .before .before .before .loop5-test .taken))
     loop5-again
-    (λ c. search needs)
-    (λ c. search needs)
-    (λ c. search needs)
+    (λ c. sender (c .before .before .before) .low)
+    (λ c. next-number-fits (sender (c .before)))
+    (λ c. left-falls _ _ (c .before .loop4-test .taken))
     loop4-again
     loop8-holds
-    (λ c. search needs)
-    (λ c. search needs)
+    (λ c. station-fits (station c))
+    (λ c. station c .low)
     (λ c κs. search needs)
     (λ c. search needs)
     (λ c. search needs)
-    (λ c. search needs)
-    (λ c. search needs)
+    (λ c. station-fits (station (c .before .before .before)))
+    (λ c. station (c .before .before .before) .low)
     expire-requires
-    (λ c. search needs)
-    (λ c. search needs)
-    (λ c. search needs)
-    (λ c. search needs)
-    (λ c. search needs)
-    (λ c. search needs)
-    (λ c. search needs)
-    (λ c. search needs)
+    (λ c. station-fits (station (c .before .before .before .before .before)))
+    (λ c. station (c .before .before .before .before .before) .low)
+    (λ c. station-fits (station (c .before .before .before)))
+    (λ c. station (c .before .before .before) .low)
+    (λ c. number-fits (station (c .before .before .before .before)))
+    (λ c. name-fits (station (c .before .before .before .before)))
+    (λ c. station-fits (station (c .before .before .before .before)))
+    (λ c. station (c .before .before .before .before) .low)
     (λ c κs. search needs)
-    (λ c. search needs)
-    (λ c. search needs)
-    (λ c. search needs)
+    (λ c. station (c .before .before .before .before .before .before .before) .low)
+    (λ c. station-fits (station (c .before .before .before .before .before .before .before)))
+    (λ c. station (c .before .before .before .before .before .before .before) .low)
     loop9-holds
-    (λ c. search needs)
-    (λ c. search needs)
-    (λ c. search needs)
+    (λ c. row-fits (way c .from))
+    (λ c. link-fits (way c))
+    (λ c. link-low (way c))
     (λ c κs. search needs)
-    element-copy-out-count-2
+    (λ c. link-low (way (c .before .before .before)))
     (λ c κs. search needs)
     add-due-2
-    (λ c. search needs)
+    (λ c. places-fit (way (c .before .before .before .before .before)))
     add-t145
     mul-t146
     element-set-from-s-4
-    element-copy-out-s-2
+    (λ c. link-low (way (c .before .before .before .before .before)))
     add-s-2
-    element-write-s-2
-    (λ c κs. search needs)
-    add-q-3
-    loop9-less
+    (λ c. link-low (way (c .before .before .before .before .before .before)))
+    (λ c κs. c .before .before .before .before .before .before .before .loop9 .inv .1)
+    (λ c. next-number-fits (way (c .before .before .before) .to))
+    (λ c. left-falls _ _ (c .before .before .before .loop9-test .taken))
     loop9-again
     (λ c. search needs)
     element-copy-out-sent-more
     sent-more-requires
-    (λ c. search needs)
-    (λ c. search needs)
-    (λ c. search needs)
-    (λ c. search needs)
+    (λ c. sent-fits (station (c .before .before .before .before .before .before .before .before .before .before .before .before .before)))
+    (λ c. station (c .before .before .before .before .before .before .before .before .before .before .before .before .before) .low)
+    (λ c. station-fits (station (c .before .before .before .before .before .before .before)))
+    (λ c. station (c .before .before .before .before .before .before .before) .low)
     slot-requires
-    (λ c. search needs)
-    (λ c. search needs)
-    (λ c. search needs)
-    (λ c. search needs)
+    (λ c. station-fits (station (c .before .before .before .before .before .before .before .before .before)))
+    (λ c. station (c .before .before .before .before .before .before .before .before .before) .low)
+    (λ c. station-fits (station (c .before .before .before .before)))
+    (λ c. station (c .before .before .before .before) .low)
     quiet-station-requires
-    (λ c. search needs)
-    (λ c. search needs)
+    (λ c. next-number-fits (station (c .before .before .before .before .before .before)))
+    (λ c. left-falls _ _ (c .before .before .before .before .before .before .loop8-test .taken))
     loop8-again
     (λ c. search needs)
     loop3-again
