@@ -88,3 +88,32 @@ all-done i n a b = omega arith
 -- a tick and its successor
 pub tick-fits : (t end : ℕ) → t < end → end ≤ lastTick → Fits w32 (t + 1)
 tick-fits t end a b = record { fits = omega arith }
+
+-- one message more fits where a place is free
+pub used-more-fits : (u v : ℕ) → u ≡ v → u < 4 → Fits w8 (v + 1)
+used-more-fits u v e h = record { fits = omega arith }
+
+pub none-low : (n : ℕ) → 0 ≤ n
+none-low n = omega arith
+
+pub row-start : (p : ℕ) → 8 * p + 0 ≡ 8 * p
+row-start p = omega arith
+
+-- a bound that is set anew, and a count that goes on or not
+pub at-least : (a b c : ℕ) → b ≡ c → a ≤ c → a ≤ b
+at-least a b c e h = omega arith
+
+pub at-most : (a b c d : ℕ) → a ≡ b → b ≤ c → c ≤ d → a ≤ d
+at-most a b c d e h i = omega arith
+
+pub as-most : (a b c : ℕ) → a ≡ b → b ≤ c → a ≤ c
+as-most a b c e h = omega arith
+
+pub one-more : (a b c : ℕ) → a ≡ b + 1 → b ≤ c → a ≤ c + 1
+one-more a b c e h = omega arith
+
+pub no-more : (a b c : ℕ) → a ≡ b → b ≤ c → a ≤ c + 1
+no-more a b c e h = omega arith
+
+pub long-enough : (i n m : ℕ) → i < n → m ≡ n → i < m
+long-enough i n m h e = omega arith

@@ -1,6 +1,7 @@
 -- A tick, as the code goes through it.
 pub mod After
 pub mod Chances
+pub mod Counted
 pub mod Hearing
 pub mod InPlace
 pub mod Indices
