@@ -1,8 +1,10 @@
 -- A tick, as the code goes through it.
 pub mod After
 pub mod Chances
+pub mod Counted
 pub mod Hearing
 pub mod InPlace
+pub mod Indices
 pub mod Quiet
 pub mod Ready
 pub mod Run

@@ -15,12 +15,14 @@ use Rattle.layout.specs.Layout.{systemOf}
 use Rattle.layout.specs.declared.Layout.{Layout}
 use Rattle.layout.proofs.Full.{counts-owned, held-of}
 use Rattle.layout.proofs.Stores.{Wide, part, length-links, Clearing, clearing-none, clearing-turn, used-read}
-use Rattle.election.specs.System.{atTick, noStation, noMessage, noLink}
+use Rattle.election.specs.System.{atTick, noStation, noMessage, noLink, places}
 use Rattle.election.specs.declared.System.{System}
 use Rattle.election.proofs.Soundness.{sound-of}
 use Rattle.ticks.proofs.Chances.{Chances, chances-first, chances-station, chances-says, chances-late, chances-n, chances-period, chances-sent, chances-skips, chances-free, chances-sends, chances-done, Turn, turn-ends, turn-stays, turn-sends, turn-rests, turn-slots, turn-waits}
+use Rattle.ticks.proofs.Counted.{chances-counted}
 use Rattle.ticks.proofs.Hearing.{Hearing, hearing-none, hearing-tick, hearing-ready, hearing-row, hearing-rests, timer-ready}
 use Rattle.ticks.proofs.InPlace.{Packing, packing-none, packing-read, packing-keeps, packing-drops, Heard, heard-first, heard-waits, heard-due, heard-down, Beside, beside-none, beside-stores}
+use Rattle.ticks.proofs.Indices.{Number, Ends, Place, number-of, ends-of, place-of, place-before, number-fits, name-fits, next-number-fits, row-fits, station-fits, sent-fits, link-low, link-fits, places-fit, place-low, place-fits, message-fits, next-place-fits, left-falls, tick-fits, next-low, all-done, none-low, row-start, used-more-fits, at-least, at-most, as-most, one-more, no-more, long-enough}
 use Rattle.ticks.proofs.Run.{Going, going-first, going-done, going-ticking, going-on}
 use Rattle.ticks.proofs.Silent.{Silent, silent-none, silent-marks, silent-leaves, silent-row, silent-stores, silent-sets, silent-sends, Gone, gone-more, gone-stores}
 use Rattle.ticks.proofs.Taken.{Taken, taken-none, taken-row, taken-rests, none-before, taken-few, taken-skips, link-used-is, link-wide, link-taken, link-heard, none-heard}
@@ -42,14 +44,14 @@ abbrev μ-loop : tie.MeasureT-loop
 
 abbrev Inv-loop6 : tie.InvT-loop6
 Inv-loop6 t s₀ end n empty busy now until₀ q more₀ p k u to₀ i₀ s until more to i =
-    (i ≤ u) × (u ≤ 4) × (now ≤ until) × (until ≤ until₀) × (to ≤ i) × Packing now k s₀ s until to i × Heard (systemOf s₀) (p + 1) (q + 1) now (part (s₀ .messages) k) (getD (s₀ .stations) p noStation) (getD (s .stations) p noStation) i × Beside p (s₀ .stations) (s .stations)
+    (i ≤ u) × (u ≤ places) × (now ≤ until) × (until ≤ until₀) × (to ≤ i) × Packing now k s₀ s until to i × Heard (systemOf s₀) (p + 1) (q + 1) now (part (s₀ .messages) k) (getD (s₀ .stations) p noStation) (getD (s .stations) p noStation) i × Beside p (s₀ .stations) (s .stations)
     × (more ≡ false → (more₀ ≡ false) × (to ≡ 0))
 
 abbrev μ-loop6 : tie.MeasureT-loop6
 μ-loop6 t s₀ end n empty busy now until₀ q more₀ p k u to₀ i₀ s until more to i = u - i
 
 abbrev Inv-loop7 : tie.InvT-loop7
-Inv-loop7 t s₀ end n empty busy now until q more p k u to j₀ s j = (to ≤ j) × (j ≤ u) × (u ≤ 4) × Clearing k s₀ s to j
+Inv-loop7 t s₀ end n empty busy now until q more p k u to j₀ s j = (to ≤ j) × (j ≤ u) × (u ≤ places) × Clearing k s₀ s to j
 
 abbrev μ-loop7 : tie.MeasureT-loop7
 μ-loop7 t s₀ end n empty busy now until q more p k u to j₀ s j = u - j
@@ -89,6 +91,33 @@ Inv-loop3 t s₀ end n empty busy₀ s busy = (n ≤ 8) × (end ≤ lastTick) ×
 abbrev μ-loop3 : tie.MeasureT-loop3
 μ-loop3 t s₀ end n empty busy₀ s busy = end - s .tick
 
+-- the links that are marked, and of the sender and the receiver that are on
+marked-link : (c : tie.In-loop2 Inv-loop2 μ-loop2 Inv-loop μ-loop Inv-loop6 μ-loop6 Inv-loop7 μ-loop7 Inv-loop5 μ-loop5 Inv-loop4 μ-loop4 Inv-loop9 μ-loop9 Inv-loop8 μ-loop8 Inv-loop3 μ-loop3) → Ends (c .before .before .before .loop .q) (c .before .loop2 .p)
+marked-link c = ends-of _ _ _ (c .before .before .before .loop .inv .0) (c .before .before .loop-test .taken) (c .loop2-test .taken)
+
+sender : (c : tie.In-loop4 Inv-loop2 μ-loop2 Inv-loop μ-loop Inv-loop6 μ-loop6 Inv-loop7 μ-loop7 Inv-loop5 μ-loop5 Inv-loop4 μ-loop4 Inv-loop9 μ-loop9 Inv-loop8 μ-loop8 Inv-loop3 μ-loop3) → Number (c .before .loop4 .q)
+sender c = number-of _ _ (c .before .before .before .loop3 .inv .0) (c .loop4-test .taken)
+
+link : (c : tie.In-loop5 Inv-loop2 μ-loop2 Inv-loop μ-loop Inv-loop6 μ-loop6 Inv-loop7 μ-loop7 Inv-loop5 μ-loop5 Inv-loop4 μ-loop4 Inv-loop9 μ-loop9 Inv-loop8 μ-loop8 Inv-loop3 μ-loop3) → Ends (c .before .before .before .before .loop4 .q) (c .before .loop5 .p)
+link c = ends-of _ _ _ (c .before .before .before .before .before .before .loop3 .inv .0) (c .before .before .before .loop4-test .taken) (c .loop5-test .taken)
+
+-- the places of a message that is read, that is kept and that is cleared
+place : (c : tie.In-loop6 Inv-loop2 μ-loop2 Inv-loop μ-loop Inv-loop6 μ-loop6 Inv-loop7 μ-loop7 Inv-loop5 μ-loop5 Inv-loop4 μ-loop4 Inv-loop9 μ-loop9 Inv-loop8 μ-loop8 Inv-loop3 μ-loop3) → Place (c .before .before .before .before .before .before .before .before .before .loop4 .q) (c .before .before .before .before .before .before .loop5 .p) (c .before .loop6 .i)
+place c = place-of _ _ _ _ (link (c .before .before .before .before .before)) (c .loop6-test .taken) (c .before .loop6 .inv .1)
+
+packed-place : (c : tie.In-loop6 Inv-loop2 μ-loop2 Inv-loop μ-loop Inv-loop6 μ-loop6 Inv-loop7 μ-loop7 Inv-loop5 μ-loop5 Inv-loop4 μ-loop4 Inv-loop9 μ-loop9 Inv-loop8 μ-loop8 Inv-loop3 μ-loop3) → Place (c .before .before .before .before .before .before .before .before .before .loop4 .q) (c .before .before .before .before .before .before .loop5 .p) (c .before .loop6 .to)
+packed-place c = place-before (place c) _ (c .before .loop6 .inv .4)
+
+cleared-place : (c : tie.In-loop7 Inv-loop2 μ-loop2 Inv-loop μ-loop Inv-loop6 μ-loop6 Inv-loop7 μ-loop7 Inv-loop5 μ-loop5 Inv-loop4 μ-loop4 Inv-loop9 μ-loop9 Inv-loop8 μ-loop8 Inv-loop3 μ-loop3) → Place (c .before .before .before .before .before .before .before .before .before .before .before .loop4 .q) (c .before .before .before .before .before .before .before .before .loop5 .p) (c .before .loop7 .j)
+cleared-place c = place-of _ _ _ _ (link (c .before .before .before .before .before .before .before)) (c .loop7-test .taken) (c .before .loop7 .inv .2)
+
+-- the station whose chance it is, and the link that it sends over
+station : (c : tie.In-loop8 Inv-loop2 μ-loop2 Inv-loop μ-loop Inv-loop6 μ-loop6 Inv-loop7 μ-loop7 Inv-loop5 μ-loop5 Inv-loop4 μ-loop4 Inv-loop9 μ-loop9 Inv-loop8 μ-loop8 Inv-loop3 μ-loop3) → Number (c .before .loop8 .p)
+station c = number-of _ _ (c .before .before .before .before .before .loop3 .inv .0) (c .loop8-test .taken)
+
+way : (c : tie.In-loop9 Inv-loop2 μ-loop2 Inv-loop μ-loop Inv-loop6 μ-loop6 Inv-loop7 μ-loop7 Inv-loop5 μ-loop5 Inv-loop4 μ-loop4 Inv-loop9 μ-loop9 Inv-loop8 μ-loop8 Inv-loop3 μ-loop3) → Ends (c .before .before .before .before .before .before .before .before .before .before .before .before .loop8 .p) (c .before .loop9 .q)
+way c = ends-of _ _ _ (c .before .before .before .before .before .before .before .before .before .before .before .before .before .before .before .before .loop3 .inv .0) (c .before .before .before .before .before .before .before .before .before .before .before .loop8-test .taken) (c .loop9-test .taken)
+
 loop-holds : tie.Need-loop-holds Inv-loop2 μ-loop2 Inv-loop μ-loop Inv-loop6 μ-loop6 Inv-loop7 μ-loop7 Inv-loop5 μ-loop5 Inv-loop4 μ-loop4 Inv-loop9 μ-loop9 Inv-loop8 μ-loop8 Inv-loop3 μ-loop3
 loop-holds c =
     let f = sound-of (systemOf (c .before .args .t2)) (c .before .pre .0) (c .before .pre .1) in
@@ -126,7 +155,7 @@ loop3-holds c =
     let stations : length (s .stations) ≡ 8 = simp length-map at (c .before .before .before .good .1 .0 .1 .1 .1 .1 .1 .1 .0 .1 .0 .1) in
     let sent : length (s .sent) ≡ 8 = simp length-map at (c .before .before .before .good .1 .0 .1 .1 .1 .1 .1 .1 .1 .0 .1 .0 .1) in
     let owned = c .before .before .before .good .1 .0 .1 .1 .1 .1 .1 .1 .1 .1 .1 .1 .0 in
-    let size : length (s .messages) ≡ 256 = simp length-map at (owned .1 .0 .1) in
+    let size : length (s .messages) ≡ 64 * places = simp length-map at (owned .1 .0 .1) in
     let held = held-of s stations sent (λ j h. counts-owned (s .messages) (owned .0) (owned .1 .1) j (omega arith)) (c .before .before .before .pre .0) (c .before .before .before .pre .1) in
     let zq : c .before .loop .q ≡ s .n = omega (arith, i .1, c .loop-test .left) in
     (i .0, c .before .before .before .pre .2, omega arith, going-first _ _ (c .before .before .before .pre .0) (c .before .before .before .pre .1) held (c .before .before .before .pre .2), record { used = simp length-map at (c .before .before .before .good .1 .0 .1 .1 .1 .1 .1 .1 .1 .1 .1 .0 .1 .0 .1); messages = size }, subst (λ (j : ℕ). Silent (s .n) (s .used) (c .before .loop .busy) (8 * j)) zq (i .2))
@@ -160,9 +189,6 @@ loop6-holds c =
     let hk : k < 64 = omega (arith, i .0, hp, hq) in
     (search needs, omega (arith, taken-few n now r _ _ p q (i .0) hp hq gone, used-read x k hk, c .before .count .ensures), i5 .1, omega arith, omega arith, packing-none _ _ _ _ (i5 .3), heard-first _ _ _ _ _ _, beside-none _ _, λ e. (e, refl))
 
-element-copy-out-m : tie.Need-element-copy-out-m Inv-loop2 μ-loop2 Inv-loop μ-loop Inv-loop6 μ-loop6 Inv-loop7 μ-loop7 Inv-loop5 μ-loop5 Inv-loop4 μ-loop4 Inv-loop9 μ-loop9 Inv-loop8 μ-loop8 Inv-loop3 μ-loop3
-element-copy-out-m c = search needs
-
 hear-requires : tie.Need-hear-requires Inv-loop2 μ-loop2 Inv-loop μ-loop Inv-loop6 μ-loop6 Inv-loop7 μ-loop7 Inv-loop5 μ-loop5 Inv-loop4 μ-loop4 Inv-loop9 μ-loop9 Inv-loop8 μ-loop8 Inv-loop3 μ-loop3
 hear-requires c κs =
     let i = c .before .before .before .before .before .before .before .before .before .before .before .before .before .before .before .before .loop3 .inv in
@@ -191,25 +217,23 @@ loop6-again c =
     let x = c .before .before .before .before .before .before .before .loop5 .s in
     let i5 = c .before .before .before .before .before .before .before .loop5 .inv in
     let so = i5 .6 r (i4 .4) (i4 .5) .1 in
-    let hq : q < n = omega (arith, c .before .before .before .before .before .before .before .before .before .loop4-test .taken) in
-    let hp : p < n = omega (arith, c .before .before .before .before .before .before .loop5-test .taken) in
     let k = 8 * q + p in
-    let hk : k < 64 = omega (arith, i .0, hp, hq) in
+    let hk : k < 64 = link-low (link (c .before .before .before .before .before .before)) in
     let i6 = c .before .before .loop6 .inv in
     let s = c .before .before .loop6 .s in
     let j = c .before .before .loop6 .i in
-    let m = getD (s .messages) (4 * k + j) noMessage in
-    let hj : j < 4 = omega (arith, i6 .1, c .before .loop6-test .taken) in
-    let hl : j < length (part (x .messages) k) = omega (arith, hj, length-segment 4 noMessage (x .messages) k) in
+    let m = getD (s .messages) (places * k + j) noMessage in
+    let hj : j < places = place (c .before) .low in
+    let hl : j < length (part (x .messages) k) = long-enough _ _ _ hj (length-segment 4 noMessage (x .messages) k) in
     let old = packing-read now k x _ _ _ _ (i6 .5) hk hj in
-    let long : p < length (s .stations) = omega (arith, i6 .7 .long, so .long, hp, i .0) in
+    let long : p < length (s .stations) = long-enough _ _ _ (link (c .before .before .before .before .before .before) .to .low) (i6 .7 .long ∙ so .long) in
     ⊎-elim
     (λ w. (
-      omega (arith, c .before .loop6-test .taken),
+      next-low _ _ (c .before .loop6-test .taken),
       i6 .1,
-      rw (w .4) (w .1 .ensures .0),
-      omega (arith, w .4, w .1 .ensures .1, i6 .3),
-      omega (arith, w .6, i6 .4),
+      at-least _ _ _ (w .4) (w .1 .ensures .0),
+      at-most _ _ _ _ (w .4) (w .1 .ensures .1) (i6 .3),
+      one-more _ _ _ (w .6) (i6 .4),
       packing-keeps _ k _ _ _ _ _ (i6 .5) hk hj _ _ _ _ _ refl (w .0 .taken) (w .1 .ensures .1) (w .1 .ensures .2) (w .3) (w .4) (w .6),
       heard-waits _ (p + 1) (q + 1) now _ _ _ _ j m (i6 .6) hl old (w .0 .taken) (ap (λ (z : Layout). getD (z .stations) p noStation) (w .3)),
       subst (λ (z : Layout). Beside p (x .stations) (z .stations)) (sym (w .3)) (i6 .7),
@@ -217,22 +241,22 @@ loop6-again c =
     ))
     (λ v. ⊎-elim
     (λ w. (
-      omega (arith, c .before .loop6-test .taken),
+      next-low _ _ (c .before .loop6-test .taken),
       i6 .1,
-      rw (w .7) (i6 .2),
-      omega (arith, w .7, i6 .3),
-      omega (arith, w .9, i6 .4),
+      at-least _ _ _ (w .7) (i6 .2),
+      as-most _ _ _ (w .7) (i6 .3),
+      no-more _ _ _ (w .9) (i6 .4),
       packing-drops _ k _ _ _ _ _ (i6 .5) hk hj _ _ _ _ _ refl (w .0 .left) (w .6) (w .7) (w .9),
       heard-due _ (p + 1) (q + 1) now _ _ _ _ j m (i6 .6) hl old (w .0 .left) (w .1 .taken) (ap (λ (z : Layout). getD (z .stations) p noStation) (w .6) ∙ getD-set-same (s .stations) p _ noStation long ∙ w .5 .ensures),
       subst (λ (z : Layout). Beside p (x .stations) (z .stations)) (sym (w .6)) (beside-stores p _ _ _ (i6 .7)),
       λ e. (i6 .8 (sym (w .8) ∙ e) .0, w .9 ∙ i6 .8 (sym (w .8) ∙ e) .1),
     ))
     (λ w. (
-      omega (arith, c .before .loop6-test .taken),
+      next-low _ _ (c .before .loop6-test .taken),
       i6 .1,
-      rw (w .3) (i6 .2),
-      omega (arith, w .3, i6 .3),
-      omega (arith, w .5, i6 .4),
+      at-least _ _ _ (w .3) (i6 .2),
+      as-most _ _ _ (w .3) (i6 .3),
+      no-more _ _ _ (w .5) (i6 .4),
       packing-drops _ k _ _ _ _ _ (i6 .5) hk hj _ _ _ (s .stations) _ refl (w .0 .left) (w .2) (w .3) (w .5),
       heard-down _ (p + 1) (q + 1) now _ _ _ _ j m (i6 .6) hl old (w .0 .left) (w .1 .left) (ap (λ (z : Layout). getD (z .stations) p noStation) (w .2)),
       subst (λ (z : Layout). Beside p (x .stations) (z .stations)) (sym (w .2)) (i6 .7),
@@ -251,7 +275,7 @@ loop7-again c =
     let i7 = c .before .loop7 .inv in
     let k = 8 * c .before .before .before .before .before .before .before .before .before .before .before .loop4 .q + c .before .before .before .before .before .before .before .before .loop5 .p in
     let hk : k < 64 = omega (arith, c .before .before .before .before .before .before .before .before .before .before .before .before .before .loop3 .inv .0, c .before .before .before .before .before .before .before .before .before .before .loop4-test .taken, c .before .before .before .before .before .before .before .loop5-test .taken) in
-    let hj : c .before .loop7 .j < 4 = omega (arith, i7 .2, c .loop7-test .taken) in
+    let hj : c .before .loop7 .j < places = omega (arith, i7 .2, c .loop7-test .taken) in
     (omega (arith, i7 .0), omega (arith, c .loop7-test .taken), i7 .2, clearing-turn k _ _ _ _ (i7 .3) hk hj (i7 .0) _ _ (c .before .before .before .before .before .before .before .before .before .before .before .before .before .before .before .before .unused .ensures) refl)
 
 loop5-again : tie.Need-loop5-again Inv-loop2 μ-loop2 Inv-loop μ-loop Inv-loop6 μ-loop6 Inv-loop7 μ-loop7 Inv-loop5 μ-loop5 Inv-loop4 μ-loop4 Inv-loop9 μ-loop9 Inv-loop8 μ-loop8 Inv-loop3 μ-loop3
@@ -362,150 +386,73 @@ expire-requires c κs =
     let z : c .before .before .before .before .before .before .before .loop4 .q ≡ n = omega (arith, i4 .0, c .before .before .before .before .before .before .loop4-test .left) in
     timer-ready r n _ (systemOf (c .before .before .before .before .before .before .before .loop4 .s)) (i4 .5) z (i .3 .size) (going-ticking _ _ r (i .3) (c .before .before .before .before .before .before .before .before .loop3-test .taken)) p hp _ (c .before .before .before .before .before .loop8 .inv .2 .chances .rest p (omega arith)) (sym (c .before .before .timer-ends .ensures) ∙ c .before .if6 .taken)
 
+-- the station's timer is done
+timed : (c : tie.Joined6 Inv-loop2 μ-loop2 Inv-loop μ-loop Inv-loop6 μ-loop6 Inv-loop7 μ-loop7 Inv-loop5 μ-loop5 Inv-loop4 μ-loop4 Inv-loop9 μ-loop9 Inv-loop8 μ-loop8 Inv-loop3 μ-loop3) → Turn (c .before .before .before .before .before .before .before .before .before .before .before .before .args .t2 .n) (c .before .before .before .before .before .before .before .before .loop3 .s .tick + 1) (systemOf (c .before .before .before .before .before .before .loop4 .s)) (c .before .before .before .before .before .before .before .before .before .before .before .before .args .t2 .tick + c .before .before .before .before .before .before .before .before .before .before .before .before .args .t) (c .before .before .before .before .loop8 .until) (c .if6 .s) (c .before .before .before .before .loop8 .busy) (c .before .before .before .before .loop8 .p + 1) (c .before .before .before .before .loop8 .p) (c .before .before .before .before .loop8 .p) (8 * c .before .before .before .before .loop8 .p)
+timed c =
+    ⊎-elim
+    (λ w. turn-ends _ _ _ _ _ (c .before .before .before .before .loop8 .s) _ _ (c .before .before .before .loop8-test .taken) (c .before .before .before .before .before .before .before .before .loop3 .inv .0) (c .before .before .before .before .loop8 .inv .2) _ _ (sym (c .before .timer-ends .ensures) ∙ w .0 .taken) (w .2 .ensures) (w .3))
+    (λ w. turn-stays _ _ _ _ _ (c .before .before .before .before .loop8 .s) _ _ (c .before .before .before .loop8-test .taken) (c .before .before .before .before .before .before .before .before .loop3 .inv .0) (c .before .before .before .before .loop8 .inv .2) _ (sym (c .before .timer-ends .ensures) ∙ w .0 .left) (w .1))
+    (c .if6 .came)
+
+-- the link that it sends over has a place
+free-place : (c : tie.After-count2 Inv-loop2 μ-loop2 Inv-loop μ-loop Inv-loop6 μ-loop6 Inv-loop7 μ-loop7 Inv-loop5 μ-loop5 Inv-loop4 μ-loop4 Inv-loop9 μ-loop9 Inv-loop8 μ-loop8 Inv-loop3 μ-loop3) → Place (c .before .before .before .before .before .before .before .before .before .before .before .before .before .before .before .before .before .loop8 .p) (c .before .before .before .before .before .before .loop9 .q) (c .count2 .result)
+free-place c =
+    let n = c .before .before .before .before .before .before .before .before .before .before .before .before .before .before .before .before .before .before .before .before .before .before .before .before .before .args .t2 .n in
+    let now = c .before .before .before .before .before .before .before .before .before .before .before .before .before .before .before .before .before .before .before .before .before .loop3 .s .tick + 1 in
+    let σ = systemOf (c .before .before .before .before .before .before .before .before .before .before .before .before .before .before .before .before .before .before .before .loop4 .s) in
+    let p = c .before .before .before .before .before .before .before .before .before .before .before .before .before .before .before .before .before .loop8 .p in
+    let hp : p < n = c .before .before .before .before .before .before .before .before .before .before .before .before .before .before .before .before .loop8-test .taken in
+    let ch = timed (c .before .before .before .before .before .before .before .before .before .before .before .before .before) .chances in
+    let i9 = c .before .before .before .before .before .before .loop9 .inv in
+    let says = chances-says n now σ _ _ p p _ ch hp _ (c .before .before .before .before .before .before .before .before .before .before .sends-now .ensures) in
+    record {
+      ends = way (c .before .before .before .before .before);
+      low =
+          chances-free n now σ (c .before .before .before .before .before .before .loop9 .until) (c .before .before .before .before .before .before .loop9 .s) p hp (c .before .before .before .before .before .before .loop9 .q) (c .before .before .before .before .before .loop9-test .taken) (i9 .6 σ ch) _ (c .before .before .before .ticks-of .ensures .0) (i9 .3) (c .before .before .if9 .taken) (sym says ∙ c .before .before .before .before .before .before .before .before .before .if8 .taken) _
+          (ap (λ (z : Station). z .recovered) (chances-station n now σ _ _ p p _ ch hp)) _ (c .count2 .ensures);
+    }
+
+-- it has sent, or it does not send
+rowed : (c : tie.Joined8 Inv-loop2 μ-loop2 Inv-loop μ-loop Inv-loop6 μ-loop6 Inv-loop7 μ-loop7 Inv-loop5 μ-loop5 Inv-loop4 μ-loop4 Inv-loop9 μ-loop9 Inv-loop8 μ-loop8 Inv-loop3 μ-loop3) → Turn (c .before .before .before .before .before .before .before .before .before .before .before .before .before .before .before .before .args .t2 .n) (c .before .before .before .before .before .before .before .before .before .before .before .before .loop3 .s .tick + 1) (systemOf (c .before .before .before .before .before .before .before .before .before .before .loop4 .s)) (c .before .before .before .before .before .before .before .before .before .before .before .before .before .before .before .before .args .t2 .tick + c .before .before .before .before .before .before .before .before .before .before .before .before .before .before .before .before .args .t) (c .if8 .until) (c .if8 .s) (c .if8 .busy) (c .before .before .before .before .before .before .before .before .loop8 .p + 1) (c .before .before .before .before .before .before .before .before .loop8 .p) (c .before .before .before .before .before .before .before .before .loop8 .p + 1) (8 * (c .before .before .before .before .before .before .before .before .loop8 .p + 1))
+rowed c =
+    let n = c .before .before .before .before .before .before .before .before .before .before .before .before .before .before .before .before .args .t2 .n in
+    let hn : n ≤ 8 = c .before .before .before .before .before .before .before .before .before .before .before .before .loop3 .inv .0 in
+    let now = c .before .before .before .before .before .before .before .before .before .before .before .before .loop3 .s .tick + 1 in
+    let σ = systemOf (c .before .before .before .before .before .before .before .before .before .before .loop4 .s) in
+    let p = c .before .before .before .before .before .before .before .before .loop8 .p in
+    let hp : p < n = c .before .before .before .before .before .before .before .loop8-test .taken in
+    let end = c .before .before .before .before .before .before .before .before .before .before .before .before .before .before .before .before .args .t2 .tick + c .before .before .before .before .before .before .before .before .before .before .before .before .before .before .before .before .args .t in
+    let ch = timed (c .before .before .before .before) in
+    let says = chances-says n now σ _ _ p p _ (ch .chances) hp _ (c .before .sends-now .ensures) in
+    ⊎-elim
+    (λ v.
+    let i9 = v .3 .inv in
+    turn-sends n now σ end (v .3 .until) (v .3 .s) (set (c .before .before .before .before .before .before .before .before .loop8 .busy) p true) p hp hn (v .3 .q) (all-done _ _ (i9 .0) (v .4 .left)) (record { high = i9 .2; wide = i9 .3; silent = i9 .4; chances = i9 .6 σ (ch .chances) }) (sym says ∙ v .0 .taken) _ _ _ _ (v .6 .ensures) (v .7) (v .8) (v .9))
+    (λ v. turn-rests n now σ end _ _ _ p hp hn ch (sym says ∙ v .0 .left) _ _ _ (v .1) (v .2) (v .3))
+    (c .if8 .came)
+
 loop9-holds : tie.Need-loop9-holds Inv-loop2 μ-loop2 Inv-loop μ-loop Inv-loop6 μ-loop6 Inv-loop7 μ-loop7 Inv-loop5 μ-loop5 Inv-loop4 μ-loop4 Inv-loop9 μ-loop9 Inv-loop8 μ-loop8 Inv-loop3 μ-loop3
 loop9-holds c =
-    let n = c .before .before .before .before .before .before .before .before .before .before .before .before .before .before .before .before .before .before .args .t2 .n in
-    let hn : n ≤ 8 = c .before .before .before .before .before .before .before .before .before .before .before .before .before .before .loop3 .inv .0 in
-    let now = c .before .before .before .before .before .before .before .before .before .before .before .before .before .before .loop3 .s .tick + 1 in
-    let σ = systemOf (c .before .before .before .before .before .before .before .before .before .before .before .before .loop4 .s) in
     let p = c .before .before .before .before .before .before .before .before .before .before .loop8 .p in
-    let i8 = c .before .before .before .before .before .before .before .before .before .before .loop8 .inv in
-    let hp : p < n = omega (arith, c .before .before .before .before .before .before .before .before .before .loop8-test .taken) in
-    let hp8 : p < 8 = omega (arith, c .before .before .before .before .before .before .before .before .before .before .before .before .before .before .loop3 .inv .0) in
-    let end = c .before .before .before .before .before .before .before .before .before .before .before .before .before .before .before .before .before .before .args .t2 .tick + c .before .before .before .before .before .before .before .before .before .before .before .before .before .before .before .before .before .before .args .t in
-    let test = c .before .before .before .before .before .before .before .timer-ends .ensures in
-    let ch : Turn n now σ end (c .before .before .before .before .before .before .before .before .before .before .loop8 .until) (c .before .before .before .before .before .before .if6 .s) (c .before .before .before .before .before .before .before .before .before .before .loop8 .busy) (p + 1) p p (8 * p) =
-    ⊎-elim
-    (λ w. turn-ends n now σ end _ (c .before .before .before .before .before .before .before .before .before .before .loop8 .s) _ p hp hn (i8 .2) _ _ (sym test ∙ w .0 .taken) (w .2 .ensures) (w .3))
-    (λ w. turn-stays n now σ end _ (c .before .before .before .before .before .before .before .before .before .before .loop8 .s) _ p hp hn (i8 .2) _ (sym test ∙ w .0 .left) (w .1))
-    (c .before .before .before .before .before .before .if6 .came) in
-    let z : 8 * p + 0 ≡ 8 * p = omega arith in
-    (search needs, i8 .1, ch .high, ch .wide, silent-sends n _ _ _ hn (ch .silent) p hp8, getD-set-same (c .before .before .before .before .before .before .before .before .before .before .loop8 .busy) p true false (omega (arith, ch .silent .long, hp8)), λ σ₁ a. rw z a)
-
-element-copy-out-count-2 : tie.Need-element-copy-out-count-2 Inv-loop2 μ-loop2 Inv-loop μ-loop Inv-loop6 μ-loop6 Inv-loop7 μ-loop7 Inv-loop5 μ-loop5 Inv-loop4 μ-loop4 Inv-loop9 μ-loop9 Inv-loop8 μ-loop8 Inv-loop3 μ-loop3
-element-copy-out-count-2 c = search needs
+    let hp : p < 8 = station (c .before .before .before .before .before .before .before .before .before) .low in
+    let ch = timed (c .before .before .before .before .before .before) in
+    (none-low _, c .before .before .before .before .before .before .before .before .before .before .loop8 .inv .1, ch .high, ch .wide, silent-sends _ _ _ _ (c .before .before .before .before .before .before .before .before .before .before .before .before .before .before .loop3 .inv .0) (ch .silent) p hp, getD-set-same (c .before .before .before .before .before .before .before .before .before .before .loop8 .busy) p true false (subst (λ (j : ℕ). p < j) (sym (ch .silent .long)) hp), λ σ₁ a. rw (row-start p) a)
 
 add-due-2 : tie.Need-add-due-2 Inv-loop2 μ-loop2 Inv-loop μ-loop Inv-loop6 μ-loop6 Inv-loop7 μ-loop7 Inv-loop5 μ-loop5 Inv-loop4 μ-loop4 Inv-loop9 μ-loop9 Inv-loop8 μ-loop8 Inv-loop3 μ-loop3
 add-due-2 c =
     omega (arith, c .before .before .before .ticks-of .ensures .1, c .before .before .before .before .before .before .before .before .before .before .before .before .before .before .before .before .before .before .before .before .before .loop3 .inv .1, c .before .before .before .before .before .before .before .before .before .before .before .before .before .before .before .before .before .before .before .before .loop3-test .taken)
 
 add-t145 : tie.Need-add-t145 Inv-loop2 μ-loop2 Inv-loop μ-loop Inv-loop6 μ-loop6 Inv-loop7 μ-loop7 Inv-loop5 μ-loop5 Inv-loop4 μ-loop4 Inv-loop9 μ-loop9 Inv-loop8 μ-loop8 Inv-loop3 μ-loop3
-add-t145 c =
-    let n = c .before .before .before .before .before .before .before .before .before .before .before .before .before .before .before .before .before .before .before .before .before .before .before .before .before .args .t2 .n in
-    let hn : n ≤ 8 = c .before .before .before .before .before .before .before .before .before .before .before .before .before .before .before .before .before .before .before .before .before .loop3 .inv .0 in
-    let now = c .before .before .before .before .before .before .before .before .before .before .before .before .before .before .before .before .before .before .before .before .before .loop3 .s .tick + 1 in
-    let σ = systemOf (c .before .before .before .before .before .before .before .before .before .before .before .before .before .before .before .before .before .before .before .loop4 .s) in
-    let p = c .before .before .before .before .before .before .before .before .before .before .before .before .before .before .before .before .before .loop8 .p in
-    let i8 = c .before .before .before .before .before .before .before .before .before .before .before .before .before .before .before .before .before .loop8 .inv in
-    let hp : p < n = omega (arith, c .before .before .before .before .before .before .before .before .before .before .before .before .before .before .before .before .loop8-test .taken) in
-    let end = c .before .before .before .before .before .before .before .before .before .before .before .before .before .before .before .before .before .before .before .before .before .before .before .before .before .args .t2 .tick + c .before .before .before .before .before .before .before .before .before .before .before .before .before .before .before .before .before .before .before .before .before .before .before .before .before .args .t in
-    let test = c .before .before .before .before .before .before .before .before .before .before .before .before .before .before .timer-ends .ensures in
-    let ch : Turn n now σ end (c .before .before .before .before .before .before .before .before .before .before .before .before .before .before .before .before .before .loop8 .until) (c .before .before .before .before .before .before .before .before .before .before .before .before .before .if6 .s) (c .before .before .before .before .before .before .before .before .before .before .before .before .before .before .before .before .before .loop8 .busy) (p + 1) p p (8 * p) =
-    ⊎-elim
-    (λ w. turn-ends n now σ end _ (c .before .before .before .before .before .before .before .before .before .before .before .before .before .before .before .before .before .loop8 .s) _ p hp hn (i8 .2) _ _ (sym test ∙ w .0 .taken) (w .2 .ensures) (w .3))
-    (λ w. turn-stays n now σ end _ (c .before .before .before .before .before .before .before .before .before .before .before .before .before .before .before .before .before .loop8 .s) _ p hp hn (i8 .2) _ (sym test ∙ w .0 .left) (w .1))
-    (c .before .before .before .before .before .before .before .before .before .before .before .before .before .if6 .came) in
-    let x = c .before .before .before .before .before .before .loop9 .s in
-    let until = c .before .before .before .before .before .before .loop9 .until in
-    let q = c .before .before .before .before .before .before .loop9 .q in
-    let i9 = c .before .before .before .before .before .before .loop9 .inv in
-    let k = 8 * p + q in
-    let hq : q < n = omega (arith, c .before .before .before .before .before .loop9-test .taken) in
-    let hk : k < 64 = omega (arith, hn, hp, hq) in
-    let says = chances-says n now σ _ _ p p _ (ch .chances) hp _ (c .before .before .before .before .before .before .before .before .before .before .sends-now .ensures) in
-    let free = chances-free n now σ until x p hp q hq (i9 .6 σ (ch .chances)) _ (c .before .before .before .ticks-of .ensures .0) (i9 .3) (c .before .before .if9 .taken) (sym says ∙ c .before .before .before .before .before .before .before .before .before .if8 .taken) _ (ap (λ (z : Station). z .recovered) (chances-station n now σ _ _ p p _ (ch .chances) hp)) _ (c .count2 .ensures) in
-    omega (arith, free, hk)
+add-t145 c = place-fits (free-place c)
 
 mul-t146 : tie.Need-mul-t146 Inv-loop2 μ-loop2 Inv-loop μ-loop Inv-loop6 μ-loop6 Inv-loop7 μ-loop7 Inv-loop5 μ-loop5 Inv-loop4 μ-loop4 Inv-loop9 μ-loop9 Inv-loop8 μ-loop8 Inv-loop3 μ-loop3
-mul-t146 c =
-    let n = c .before .before .before .before .before .before .before .before .before .before .before .before .before .before .before .before .before .before .before .before .before .before .before .before .before .args .t2 .n in
-    let hn : n ≤ 8 = c .before .before .before .before .before .before .before .before .before .before .before .before .before .before .before .before .before .before .before .before .before .loop3 .inv .0 in
-    let now = c .before .before .before .before .before .before .before .before .before .before .before .before .before .before .before .before .before .before .before .before .before .loop3 .s .tick + 1 in
-    let σ = systemOf (c .before .before .before .before .before .before .before .before .before .before .before .before .before .before .before .before .before .before .before .loop4 .s) in
-    let p = c .before .before .before .before .before .before .before .before .before .before .before .before .before .before .before .before .before .loop8 .p in
-    let i8 = c .before .before .before .before .before .before .before .before .before .before .before .before .before .before .before .before .before .loop8 .inv in
-    let hp : p < n = omega (arith, c .before .before .before .before .before .before .before .before .before .before .before .before .before .before .before .before .loop8-test .taken) in
-    let end = c .before .before .before .before .before .before .before .before .before .before .before .before .before .before .before .before .before .before .before .before .before .before .before .before .before .args .t2 .tick + c .before .before .before .before .before .before .before .before .before .before .before .before .before .before .before .before .before .before .before .before .before .before .before .before .before .args .t in
-    let test = c .before .before .before .before .before .before .before .before .before .before .before .before .before .before .timer-ends .ensures in
-    let ch : Turn n now σ end (c .before .before .before .before .before .before .before .before .before .before .before .before .before .before .before .before .before .loop8 .until) (c .before .before .before .before .before .before .before .before .before .before .before .before .before .if6 .s) (c .before .before .before .before .before .before .before .before .before .before .before .before .before .before .before .before .before .loop8 .busy) (p + 1) p p (8 * p) =
-    ⊎-elim
-    (λ w. turn-ends n now σ end _ (c .before .before .before .before .before .before .before .before .before .before .before .before .before .before .before .before .before .loop8 .s) _ p hp hn (i8 .2) _ _ (sym test ∙ w .0 .taken) (w .2 .ensures) (w .3))
-    (λ w. turn-stays n now σ end _ (c .before .before .before .before .before .before .before .before .before .before .before .before .before .before .before .before .before .loop8 .s) _ p hp hn (i8 .2) _ (sym test ∙ w .0 .left) (w .1))
-    (c .before .before .before .before .before .before .before .before .before .before .before .before .before .if6 .came) in
-    let x = c .before .before .before .before .before .before .loop9 .s in
-    let until = c .before .before .before .before .before .before .loop9 .until in
-    let q = c .before .before .before .before .before .before .loop9 .q in
-    let i9 = c .before .before .before .before .before .before .loop9 .inv in
-    let k = 8 * p + q in
-    let hq : q < n = omega (arith, c .before .before .before .before .before .loop9-test .taken) in
-    let hk : k < 64 = omega (arith, hn, hp, hq) in
-    let says = chances-says n now σ _ _ p p _ (ch .chances) hp _ (c .before .before .before .before .before .before .before .before .before .before .sends-now .ensures) in
-    let free = chances-free n now σ until x p hp q hq (i9 .6 σ (ch .chances)) _ (c .before .before .before .ticks-of .ensures .0) (i9 .3) (c .before .before .if9 .taken) (sym says ∙ c .before .before .before .before .before .before .before .before .before .if8 .taken) _ (ap (λ (z : Station). z .recovered) (chances-station n now σ _ _ p p _ (ch .chances) hp)) _ (c .count2 .ensures) in
-    record { fits = omega (arith, free, hk) }
+mul-t146 c = message-fits (free-place c)
 
 element-set-from-s-4 : tie.Need-element-set-from-s-4 Inv-loop2 μ-loop2 Inv-loop μ-loop Inv-loop6 μ-loop6 Inv-loop7 μ-loop7 Inv-loop5 μ-loop5 Inv-loop4 μ-loop4 Inv-loop9 μ-loop9 Inv-loop8 μ-loop8 Inv-loop3 μ-loop3
-element-set-from-s-4 c =
-    let n = c .before .before .before .before .before .before .before .before .before .before .before .before .before .before .before .before .before .before .before .before .before .before .before .before .before .args .t2 .n in
-    let hn : n ≤ 8 = c .before .before .before .before .before .before .before .before .before .before .before .before .before .before .before .before .before .before .before .before .before .loop3 .inv .0 in
-    let now = c .before .before .before .before .before .before .before .before .before .before .before .before .before .before .before .before .before .before .before .before .before .loop3 .s .tick + 1 in
-    let σ = systemOf (c .before .before .before .before .before .before .before .before .before .before .before .before .before .before .before .before .before .before .before .loop4 .s) in
-    let p = c .before .before .before .before .before .before .before .before .before .before .before .before .before .before .before .before .before .loop8 .p in
-    let i8 = c .before .before .before .before .before .before .before .before .before .before .before .before .before .before .before .before .before .loop8 .inv in
-    let hp : p < n = omega (arith, c .before .before .before .before .before .before .before .before .before .before .before .before .before .before .before .before .loop8-test .taken) in
-    let end = c .before .before .before .before .before .before .before .before .before .before .before .before .before .before .before .before .before .before .before .before .before .before .before .before .before .args .t2 .tick + c .before .before .before .before .before .before .before .before .before .before .before .before .before .before .before .before .before .before .before .before .before .before .before .before .before .args .t in
-    let test = c .before .before .before .before .before .before .before .before .before .before .before .before .before .before .timer-ends .ensures in
-    let ch : Turn n now σ end (c .before .before .before .before .before .before .before .before .before .before .before .before .before .before .before .before .before .loop8 .until) (c .before .before .before .before .before .before .before .before .before .before .before .before .before .if6 .s) (c .before .before .before .before .before .before .before .before .before .before .before .before .before .before .before .before .before .loop8 .busy) (p + 1) p p (8 * p) =
-    ⊎-elim
-    (λ w. turn-ends n now σ end _ (c .before .before .before .before .before .before .before .before .before .before .before .before .before .before .before .before .before .loop8 .s) _ p hp hn (i8 .2) _ _ (sym test ∙ w .0 .taken) (w .2 .ensures) (w .3))
-    (λ w. turn-stays n now σ end _ (c .before .before .before .before .before .before .before .before .before .before .before .before .before .before .before .before .before .loop8 .s) _ p hp hn (i8 .2) _ (sym test ∙ w .0 .left) (w .1))
-    (c .before .before .before .before .before .before .before .before .before .before .before .before .before .if6 .came) in
-    let x = c .before .before .before .before .before .before .loop9 .s in
-    let until = c .before .before .before .before .before .before .loop9 .until in
-    let q = c .before .before .before .before .before .before .loop9 .q in
-    let i9 = c .before .before .before .before .before .before .loop9 .inv in
-    let k = 8 * p + q in
-    let hq : q < n = omega (arith, c .before .before .before .before .before .loop9-test .taken) in
-    let hk : k < 64 = omega (arith, hn, hp, hq) in
-    let says = chances-says n now σ _ _ p p _ (ch .chances) hp _ (c .before .before .before .before .before .before .before .before .before .before .sends-now .ensures) in
-    let free = chances-free n now σ until x p hp q hq (i9 .6 σ (ch .chances)) _ (c .before .before .before .ticks-of .ensures .0) (i9 .3) (c .before .before .if9 .taken) (sym says ∙ c .before .before .before .before .before .before .before .before .before .if8 .taken) _ (ap (λ (z : Station). z .recovered) (chances-station n now σ _ _ p p _ (ch .chances) hp)) _ (c .count2 .ensures) in
-    omega (arith, free, hk)
-
-element-copy-out-s-2 : tie.Need-element-copy-out-s-2 Inv-loop2 μ-loop2 Inv-loop μ-loop Inv-loop6 μ-loop6 Inv-loop7 μ-loop7 Inv-loop5 μ-loop5 Inv-loop4 μ-loop4 Inv-loop9 μ-loop9 Inv-loop8 μ-loop8 Inv-loop3 μ-loop3
-element-copy-out-s-2 c = search needs
+element-set-from-s-4 c = place-low (free-place c)
 
 add-s-2 : tie.Need-add-s-2 Inv-loop2 μ-loop2 Inv-loop μ-loop Inv-loop6 μ-loop6 Inv-loop7 μ-loop7 Inv-loop5 μ-loop5 Inv-loop4 μ-loop4 Inv-loop9 μ-loop9 Inv-loop8 μ-loop8 Inv-loop3 μ-loop3
-add-s-2 c =
-    let n = c .before .before .before .before .before .before .before .before .before .before .before .before .before .before .before .before .before .before .before .before .before .before .before .before .before .before .args .t2 .n in
-    let hn : n ≤ 8 = c .before .before .before .before .before .before .before .before .before .before .before .before .before .before .before .before .before .before .before .before .before .before .loop3 .inv .0 in
-    let now = c .before .before .before .before .before .before .before .before .before .before .before .before .before .before .before .before .before .before .before .before .before .before .loop3 .s .tick + 1 in
-    let σ = systemOf (c .before .before .before .before .before .before .before .before .before .before .before .before .before .before .before .before .before .before .before .before .loop4 .s) in
-    let p = c .before .before .before .before .before .before .before .before .before .before .before .before .before .before .before .before .before .before .loop8 .p in
-    let i8 = c .before .before .before .before .before .before .before .before .before .before .before .before .before .before .before .before .before .before .loop8 .inv in
-    let hp : p < n = omega (arith, c .before .before .before .before .before .before .before .before .before .before .before .before .before .before .before .before .before .loop8-test .taken) in
-    let end = c .before .before .before .before .before .before .before .before .before .before .before .before .before .before .before .before .before .before .before .before .before .before .before .before .before .before .args .t2 .tick + c .before .before .before .before .before .before .before .before .before .before .before .before .before .before .before .before .before .before .before .before .before .before .before .before .before .before .args .t in
-    let test = c .before .before .before .before .before .before .before .before .before .before .before .before .before .before .before .timer-ends .ensures in
-    let ch : Turn n now σ end (c .before .before .before .before .before .before .before .before .before .before .before .before .before .before .before .before .before .before .loop8 .until) (c .before .before .before .before .before .before .before .before .before .before .before .before .before .before .if6 .s) (c .before .before .before .before .before .before .before .before .before .before .before .before .before .before .before .before .before .before .loop8 .busy) (p + 1) p p (8 * p) =
-    ⊎-elim
-    (λ w. turn-ends n now σ end _ (c .before .before .before .before .before .before .before .before .before .before .before .before .before .before .before .before .before .before .loop8 .s) _ p hp hn (i8 .2) _ _ (sym test ∙ w .0 .taken) (w .2 .ensures) (w .3))
-    (λ w. turn-stays n now σ end _ (c .before .before .before .before .before .before .before .before .before .before .before .before .before .before .before .before .before .before .loop8 .s) _ p hp hn (i8 .2) _ (sym test ∙ w .0 .left) (w .1))
-    (c .before .before .before .before .before .before .before .before .before .before .before .before .before .before .if6 .came) in
-    let x = c .before .before .before .before .before .before .before .loop9 .s in
-    let until = c .before .before .before .before .before .before .before .loop9 .until in
-    let q = c .before .before .before .before .before .before .before .loop9 .q in
-    let i9 = c .before .before .before .before .before .before .before .loop9 .inv in
-    let hq : q < n = omega (arith, c .before .before .before .before .before .before .loop9-test .taken) in
-    let says = chances-says n now σ _ _ p p _ (ch .chances) hp _ (c .before .before .before .before .before .before .before .before .before .before .before .sends-now .ensures) in
-    let free = chances-free n now σ until x p hp q hq (i9 .6 σ (ch .chances)) _ (c .before .before .before .before .ticks-of .ensures .0) (i9 .3) (c .before .before .before .if9 .taken) (sym says ∙ c .before .before .before .before .before .before .before .before .before .before .if8 .taken) _ (ap (λ (z : Station). z .recovered) (chances-station n now σ _ _ p p _ (ch .chances) hp)) _ (c .before .count2 .ensures) in
-    omega (arith, free, c .before .count2 .ensures)
-
-element-write-s-2 : tie.Need-element-write-s-2 Inv-loop2 μ-loop2 Inv-loop μ-loop Inv-loop6 μ-loop6 Inv-loop7 μ-loop7 Inv-loop5 μ-loop5 Inv-loop4 μ-loop4 Inv-loop9 μ-loop9 Inv-loop8 μ-loop8 Inv-loop3 μ-loop3
-element-write-s-2 c = search needs
-
-add-q-3 : tie.Need-add-q-3 Inv-loop2 μ-loop2 Inv-loop μ-loop Inv-loop6 μ-loop6 Inv-loop7 μ-loop7 Inv-loop5 μ-loop5 Inv-loop4 μ-loop4 Inv-loop9 μ-loop9 Inv-loop8 μ-loop8 Inv-loop3 μ-loop3
-add-q-3 c = search needs
-
-loop9-less : tie.Need-loop9-less Inv-loop2 μ-loop2 Inv-loop μ-loop Inv-loop6 μ-loop6 Inv-loop7 μ-loop7 Inv-loop5 μ-loop5 Inv-loop4 μ-loop4 Inv-loop9 μ-loop9 Inv-loop8 μ-loop8 Inv-loop3 μ-loop3
-loop9-less c = search needs
+add-s-2 c = used-more-fits _ _ (c .before .count2 .ensures) (free-place (c .before) .low)
 
 loop9-again : tie.Need-loop9-again Inv-loop2 μ-loop2 Inv-loop μ-loop Inv-loop6 μ-loop6 Inv-loop7 μ-loop7 Inv-loop5 μ-loop5 Inv-loop4 μ-loop4 Inv-loop9 μ-loop9 Inv-loop8 μ-loop8 Inv-loop3 μ-loop3
 loop9-again c =
@@ -513,33 +460,33 @@ loop9-again c =
     let hn : n ≤ 8 = c .before .before .before .before .before .before .before .before .before .before .before .before .before .before .before .before .before .before .before .loop3 .inv .0 in
     let now = c .before .before .before .before .before .before .before .before .before .before .before .before .before .before .before .before .before .before .before .loop3 .s .tick + 1 in
     let p = c .before .before .before .before .before .before .before .before .before .before .before .before .before .before .before .loop8 .p in
-    let hp : p < n = omega (arith, c .before .before .before .before .before .before .before .before .before .before .before .before .before .before .loop8-test .taken) in
+    let hp : p < n = c .before .before .before .before .before .before .before .before .before .before .before .before .before .before .loop8-test .taken in
     let busy = set (c .before .before .before .before .before .before .before .before .before .before .before .before .before .before .before .loop8 .busy) p true in
     let x = c .before .before .before .before .loop9 .s in
     let until = c .before .before .before .before .loop9 .until in
     let q = c .before .before .before .before .loop9 .q in
     let i9 = c .before .before .before .before .loop9 .inv in
     let k = 8 * p + q in
-    let hq : q < n = omega (arith, c .before .before .before .loop9-test .taken) in
+    let hq : q < n = c .before .before .before .loop9-test .taken in
     let d = c .before .ticks-of .result in
     let ed : d ≡ getD (x .delays) k 0 = c .before .ticks-of .ensures .0 in
     let counts = getD (c .before .before .before .before .before .before .before .before .before .before .before .if6 .s .stations) p noStation .recovered in
     ⊎-elim
     (λ w. (
-      omega arith,
-      rw (w .6) (w .4 .ensures .0),
-      omega (arith, w .6, w .4 .ensures .1, i9 .2),
+      next-low _ _ hq,
+      at-least _ _ _ (w .6) (w .4 .ensures .0),
+      at-most _ _ _ _ (w .6) (w .4 .ensures .1) (i9 .2),
       subst Wide (sym (w .5)) (record { used = length-set (x .used) k _ ∙ i9 .3 .used; messages = length-set (x .messages) _ _ ∙ i9 .3 .messages }),
-      subst (λ (z : Layout). Silent n (z .used) busy (8 * n)) (sym (w .5)) (silent-stores n (x .used) busy (8 * n) hn (i9 .4) p q _ (omega (arith, hn, hq)) (i9 .5)),
+      subst (λ (z : Layout). Silent n (z .used) busy (8 * n)) (sym (w .5)) (silent-stores n (x .used) busy (8 * n) hn (i9 .4) p q _ (way (c .before .before .before) .to .low) (i9 .5)),
       i9 .5,
       λ σ₁ a.
           chances-sends n now σ₁ until x p hp q hq (i9 .6 σ₁ a) d ed (i9 .3) (w .0 .taken) (sym (chances-says n now σ₁ _ _ p p _ a hp _ (c .before .before .before .before .before .before .before .before .sends-now .ensures)) ∙ c .before .before .before .before .before .before .before .if8 .taken) counts (ap (λ (z : Station). z .recovered) (chances-station n now σ₁ _ _ p p _ a hp))
           _ (w .2 .ensures) _ _ _ _ (ap (λ (j : ℕ). j + 1) (sym (w .2 .ensures))) (w .5) (w .6) (w .4 .ensures .1) (w .4 .ensures .2),
     ))
     (λ w. (
-      omega arith,
-      rw (w .2) (i9 .1),
-      omega (arith, w .2, i9 .2),
+      next-low _ _ hq,
+      at-least _ _ _ (w .2) (i9 .1),
+      as-most _ _ _ (w .2) (i9 .2),
       subst Wide (sym (w .1)) (i9 .3),
       subst (λ (z : Layout). Silent n (z .used) busy (8 * n)) (sym (w .1)) (i9 .4),
       i9 .5,
@@ -552,53 +499,12 @@ element-copy-out-sent-more c = search needs
 
 sent-more-requires : tie.Need-sent-more-requires Inv-loop2 μ-loop2 Inv-loop μ-loop Inv-loop6 μ-loop6 Inv-loop7 μ-loop7 Inv-loop5 μ-loop5 Inv-loop4 μ-loop4 Inv-loop9 μ-loop9 Inv-loop8 μ-loop8 Inv-loop3 μ-loop3
 sent-more-requires c κs =
-    let n = c .before .before .before .before .before .before .before .before .before .before .before .before .before .before .before .before .before .before .before .before .before .args .t2 .n in
-    let hn : n ≤ 8 = c .before .before .before .before .before .before .before .before .before .before .before .before .before .before .before .before .before .loop3 .inv .0 in
-    let now = c .before .before .before .before .before .before .before .before .before .before .before .before .before .before .before .before .before .loop3 .s .tick + 1 in
-    let σ = systemOf (c .before .before .before .before .before .before .before .before .before .before .before .before .before .before .before .loop4 .s) in
-    let p = c .before .before .before .before .before .before .before .before .before .before .before .before .before .loop8 .p in
-    let i8 = c .before .before .before .before .before .before .before .before .before .before .before .before .before .loop8 .inv in
-    let hp : p < n = omega (arith, c .before .before .before .before .before .before .before .before .before .before .before .before .loop8-test .taken) in
-    let end = c .before .before .before .before .before .before .before .before .before .before .before .before .before .before .before .before .before .before .before .before .before .args .t2 .tick + c .before .before .before .before .before .before .before .before .before .before .before .before .before .before .before .before .before .before .before .before .before .args .t in
-    let test = c .before .before .before .before .before .before .before .before .before .before .timer-ends .ensures in
-    let ch : Turn n now σ end (c .before .before .before .before .before .before .before .before .before .before .before .before .before .loop8 .until) (c .before .before .before .before .before .before .before .before .before .if6 .s) (c .before .before .before .before .before .before .before .before .before .before .before .before .before .loop8 .busy) (p + 1) p p (8 * p) =
-    ⊎-elim
-    (λ w. turn-ends n now σ end _ (c .before .before .before .before .before .before .before .before .before .before .before .before .before .loop8 .s) _ p hp hn (i8 .2) _ _ (sym test ∙ w .0 .taken) (w .2 .ensures) (w .3))
-    (λ w. turn-stays n now σ end _ (c .before .before .before .before .before .before .before .before .before .before .before .before .before .loop8 .s) _ p hp hn (i8 .2) _ (sym test ∙ w .0 .left) (w .1))
-    (c .before .before .before .before .before .before .before .before .before .if6 .came) in
-    let x = c .before .before .loop9 .s in
-    let until = c .before .before .loop9 .until in
-    let i9 = c .before .before .loop9 .inv in
-    let part′ = i9 .6 σ (ch .chances) in
-    let same = chances-n n now σ until x p p _ part′ hp in
-    (omega (arith, same, part′ .part .mid .size, part′ .part .mid .n-low), omega (arith, same, part′ .part .mid .size, part′ .part .mid .n-high), rw (chances-sent n now σ until x p p _ part′ hp) (part′ .part .mid .sent-low p hp))
+    chances-counted _ _ _ _ _ (c .before .before .before .before .before .before .before .before .before .before .before .before .before .loop8 .p) _ (c .before .before .loop9 .inv .6 (systemOf (c .before .before .before .before .before .before .before .before .before .before .before .before .before .before .before .loop4 .s)) (timed (c .before .before .before .before .before .before .before .before .before) .chances)) (c .before .before .before .before .before .before .before .before .before .before .before .before .loop8-test .taken)
 
 slot-requires : tie.Need-slot-requires Inv-loop2 μ-loop2 Inv-loop μ-loop Inv-loop6 μ-loop6 Inv-loop7 μ-loop7 Inv-loop5 μ-loop5 Inv-loop4 μ-loop4 Inv-loop9 μ-loop9 Inv-loop8 μ-loop8 Inv-loop3 μ-loop3
 slot-requires c κs =
-    let n = c .before .before .before .before .before .before .before .before .before .before .before .before .before .before .before .before .before .args .t2 .n in
-    let hn : n ≤ 8 = c .before .before .before .before .before .before .before .before .before .before .before .before .before .loop3 .inv .0 in
-    let now = c .before .before .before .before .before .before .before .before .before .before .before .before .before .loop3 .s .tick + 1 in
-    let σ = systemOf (c .before .before .before .before .before .before .before .before .before .before .before .loop4 .s) in
-    let p = c .before .before .before .before .before .before .before .before .before .loop8 .p in
-    let i8 = c .before .before .before .before .before .before .before .before .before .loop8 .inv in
-    let hp : p < n = omega (arith, c .before .before .before .before .before .before .before .before .loop8-test .taken) in
-    let end = c .before .before .before .before .before .before .before .before .before .before .before .before .before .before .before .before .before .args .t2 .tick + c .before .before .before .before .before .before .before .before .before .before .before .before .before .before .before .before .before .args .t in
-    let test = c .before .before .before .before .before .before .timer-ends .ensures in
-    let ch : Turn n now σ end (c .before .before .before .before .before .before .before .before .before .loop8 .until) (c .before .before .before .before .before .if6 .s) (c .before .before .before .before .before .before .before .before .before .loop8 .busy) (p + 1) p p (8 * p) =
-    ⊎-elim
-    (λ w. turn-ends n now σ end _ (c .before .before .before .before .before .before .before .before .before .loop8 .s) _ p hp hn (i8 .2) _ _ (sym test ∙ w .0 .taken) (w .2 .ensures) (w .3))
-    (λ w. turn-stays n now σ end _ (c .before .before .before .before .before .before .before .before .before .loop8 .s) _ p hp hn (i8 .2) _ (sym test ∙ w .0 .left) (w .1))
-    (c .before .before .before .before .before .if6 .came) in
-    let row : Turn n now σ end (c .before .if8 .until) (c .before .if8 .s) (c .before .if8 .busy) (p + 1) p (p + 1) (8 * (p + 1)) =
-    let says = chances-says n now σ _ _ p p _ (ch .chances) hp _ (c .before .before .sends-now .ensures) in
-    ⊎-elim
-    (λ v.
-    let zq : v .3 .q ≡ n = omega (arith, v .4 .left, v .3 .inv .0) in
-    let i9 = v .3 .inv in
-    turn-sends n now σ end (v .3 .until) (v .3 .s) (set (c .before .before .before .before .before .before .before .before .before .loop8 .busy) p true) p hp hn (v .3 .q) zq (record { high = i9 .2; wide = i9 .3; silent = i9 .4; chances = i9 .6 σ (ch .chances) }) (sym says ∙ v .0 .taken) _ _ _ _ (v .6 .ensures) (v .7) (v .8) (v .9))
-    (λ v. turn-rests n now σ end _ _ _ p hp hn ch (sym says ∙ v .0 .left) _ _ _ (v .1) (v .2) (v .3))
-    (c .before .if8 .came) in
-    (rw (chances-period n now σ _ _ p _ _ (row .chances) hp) (row .chances .part .mid .period-high), row .chances .part .mid .early)
+    let row = rowed (c .before) .chances in
+    (rw (chances-period _ _ _ _ _ _ _ _ row (c .before .before .before .before .before .before .before .before .loop8-test .taken)) (row .part .mid .period-high), row .part .mid .early)
 
 quiet-station-requires : tie.Need-quiet-station-requires Inv-loop2 μ-loop2 Inv-loop μ-loop Inv-loop6 μ-loop6 Inv-loop7 μ-loop7 Inv-loop5 μ-loop5 Inv-loop4 μ-loop4 Inv-loop9 μ-loop9 Inv-loop8 μ-loop8 Inv-loop3 μ-loop3
 quiet-station-requires c κs =
@@ -615,31 +521,17 @@ loop8-again c =
     let now = c .before .before .before .before .before .before .before .before .before .before .before .loop3 .s .tick + 1 in
     let σ = systemOf (c .before .before .before .before .before .before .before .before .before .loop4 .s) in
     let p = c .before .before .before .before .before .before .before .loop8 .p in
-    let i8 = c .before .before .before .before .before .before .before .loop8 .inv in
-    let hp : p < n = omega (arith, c .before .before .before .before .before .before .loop8-test .taken) in
+    let hp : p < n = c .before .before .before .before .before .before .loop8-test .taken in
     let end = c .before .before .before .before .before .before .before .before .before .before .before .before .before .before .before .args .t2 .tick + c .before .before .before .before .before .before .before .before .before .before .before .before .before .before .before .args .t in
-    let test = c .before .before .before .before .timer-ends .ensures in
-    let ch : Turn n now σ end (c .before .before .before .before .before .before .before .loop8 .until) (c .before .before .before .if6 .s) (c .before .before .before .before .before .before .before .loop8 .busy) (p + 1) p p (8 * p) =
-    ⊎-elim
-    (λ w. turn-ends n now σ end _ (c .before .before .before .before .before .before .before .loop8 .s) _ p hp hn (i8 .2) _ _ (sym test ∙ w .0 .taken) (w .2 .ensures) (w .3))
-    (λ w. turn-stays n now σ end _ (c .before .before .before .before .before .before .before .loop8 .s) _ p hp hn (i8 .2) _ (sym test ∙ w .0 .left) (w .1))
-    (c .before .before .before .if6 .came) in
+    let ch = timed (c .before .before .before) in
     let quiet = c .quiet-station .ensures in
     ⊎-elim
     (λ w.
-    let row : Turn n now σ end (w .3 .until) (w .3 .s) (w .3 .busy) (p + 1) p (p + 1) (8 * (p + 1)) =
-    let says = chances-says n now σ _ _ p p _ (ch .chances) hp _ (w .2 .ensures) in
-    ⊎-elim
-    (λ v.
-    let zq : v .3 .q ≡ n = omega (arith, v .4 .left, v .3 .inv .0) in
-    let i9 = v .3 .inv in
-    turn-sends n now σ end (v .3 .until) (v .3 .s) (set (c .before .before .before .before .before .before .before .loop8 .busy) p true) p hp hn (v .3 .q) zq (record { high = i9 .2; wide = i9 .3; silent = i9 .4; chances = i9 .6 σ (ch .chances) }) (sym says ∙ v .0 .taken) _ _ _ _ (v .6 .ensures) (v .7) (v .8) (v .9))
-    (λ v. turn-rests n now σ end _ _ _ p hp hn ch (sym says ∙ v .0 .left) _ _ _ (v .1) (v .2) (v .3))
-    (w .3 .came) in
-    (omega arith, quiet .0, turn-slots n now σ end (w .3 .until) (w .3 .s) (w .3 .busy) p hp hn _ _ row _ _ _ _ (w .8) (quiet .1) (w .7) (quiet .2) _ _ (chances-station n now σ _ _ p p _ (ch .chances) hp) (w .0 .taken) (w .5 .ensures) (w .6)))
+    let row = rowed (record { before = record { before = record { before = record { before = c .before .before .before; if7 = w .0 }; sends-now-arg = w .1 }; sends-now = w .2 }; if8 = w .3 }) in
+    (next-low _ _ hp, quiet .0, turn-slots n now σ end (w .3 .until) (w .3 .s) (w .3 .busy) p hp hn _ _ row _ _ _ _ (w .8) (quiet .1) (w .7) (quiet .2) _ _ (chances-station n now σ _ _ p p _ (ch .chances) hp) (w .0 .taken) (w .5 .ensures) (w .6)))
     (λ w.
     let row = turn-rests n now σ end _ _ _ p hp hn ch (chances-late n now σ _ _ p p _ (ch .chances) hp (w .0 .left)) _ _ _ refl refl refl in
-    (omega arith, quiet .0, turn-waits n now σ end _ _ _ p hp hn _ _ row _ _ _ _ (w .3) (quiet .1) (w .2) (quiet .2) (w .0 .left) (w .1)))
+    (next-low _ _ hp, quiet .0, turn-waits n now σ end _ _ _ p hp hn _ _ row _ _ _ _ (w .3) (quiet .1) (w .2) (quiet .2) (w .0 .left) (w .1)))
     (c .before .before .if7 .came)
 
 loop3-again : tie.Need-loop3-again Inv-loop2 μ-loop2 Inv-loop μ-loop Inv-loop6 μ-loop6 Inv-loop7 μ-loop7 Inv-loop5 μ-loop5 Inv-loop4 μ-loop4 Inv-loop9 μ-loop9 Inv-loop8 μ-loop8 Inv-loop3 μ-loop3
@@ -689,130 +581,130 @@ run-spec =
     (λ c κs. search needs)
     loop-holds
     loop2-holds
-    (λ c. search needs)
-    (λ c. search needs)
-    (λ c. search needs)
-    (λ c. search needs)
-    (λ c. search needs)
-    (λ c. search needs)
+    (λ c. row-fits (marked-link c .from))
+    (λ c. link-fits (marked-link c))
+    (λ c. link-low (marked-link c))
+    (λ c. marked-link (c .before .before) .from .low)
+    (λ c. next-number-fits (marked-link (c .before .before) .to))
+    (λ c. left-falls _ _ (c .before .before .loop2-test .taken))
     loop2-again
-    (λ c. search needs)
-    (λ c. search needs)
+    (λ c. next-number-fits (number-of _ _ (c .before .before .before .loop .inv .0) (c .before .before .loop-test .taken)))
+    (λ c. left-falls _ _ (c .before .before .loop-test .taken))
     loop-again
     loop3-holds
-    (λ c. search needs)
+    (λ c. tick-fits _ _ (c .loop3-test .taken) (c .before .loop3 .inv .1))
     loop4-holds
-    (λ c. search needs)
+    (λ c. sender c .low)
     loop5-holds
-    (λ c. search needs)
-    (λ c. search needs)
-    (λ c. search needs)
+    (λ c. row-fits (link c .from))
+    (λ c. link-fits (link c))
+    (λ c. link-low (link c))
     (λ c κs. search needs)
     loop6-holds
+    (λ c. places-fit (link (c .before .before .before .before .before)))
+    (λ c. place-fits (place c))
+    (λ c. message-fits (place c))
+    (λ c. place-low (place c))
+    (λ c κs. c .before .before .loop6 .inv .2)
+    (λ c. places-fit (link (c .before .before .before .before .before .before .before)))
+    (λ c. place-fits (place (c .before .before)))
+    (λ c. message-fits (place (c .before .before)))
+    (λ c. place-low (place (c .before .before)))
+    (λ c. places-fit (link (c .before .before .before .before .before .before .before .before)))
     (λ c. search needs)
     (λ c. search needs)
     (λ c. search needs)
-    (λ c. search needs)
-    (λ c κs. search needs)
-    (λ c. search needs)
-    (λ c. search needs)
-    (λ c. search needs)
-    (λ c. search needs)
-    (λ c. search needs)
-    (λ c. search needs)
-    (λ c. search needs)
-    (λ c. search needs)
-    (λ c. search needs)
-    (λ c. search needs)
-    (λ c. search needs)
-    (λ c. search needs)
-    (λ c. search needs)
-    (λ c. search needs)
-    element-copy-out-m
-    (λ c. search needs)
-    (λ c. search needs)
-    (λ c. search needs)
-    (λ c. search needs)
-    (λ c. search needs)
-    (λ c. search needs)
+    (λ c. next-place-fits (packed-place (c .before .before .before)))
+    (λ c. station-fits (link (c .before .before .before .before .before .before) .to))
+    (λ c. link (c .before .before .before .before .before .before) .to .low)
+    (λ c. places-fit (link (c .before .before .before .before .before .before .before)))
+    (λ c. place-fits (place (c .before .before)))
+    (λ c. message-fits (place (c .before .before)))
+    (λ c. place-low (place (c .before .before)))
+    (λ c. number-fits (link (c .before .before .before .before .before .before .before .before .before) .to))
+    (λ c. name-fits (link (c .before .before .before .before .before .before .before .before .before) .to))
+    (λ c. number-fits (link (c .before .before .before .before .before .before .before .before .before) .from))
+    (λ c. name-fits (link (c .before .before .before .before .before .before .before .before .before) .from))
+    (λ c. station-fits (link (c .before .before .before .before .before .before .before .before .before) .to))
+    (λ c. link (c .before .before .before .before .before .before .before .before .before) .to .low)
     hear-requires
-    (λ c. search needs)
-    (λ c. search needs)
-    (λ c. search needs)
-    (λ c. search needs)
+    (λ c. station-fits (link (c .before .before .before .before .before .before .before .before .before .before .before) .to))
+    (λ c. link (c .before .before .before .before .before .before .before .before .before .before .before) .to .low)
+    (λ c. next-place-fits (place (c .before)))
+    (λ c. left-falls _ _ (c .before .loop6-test .taken))
     loop6-again
     loop7-holds
-    (λ c. search needs)
-    (λ c. search needs)
-    (λ c. search needs)
-    (λ c. search needs)
-    (λ c. search needs)
-    (λ c. search needs)
+    (λ c. places-fit (link (c .before .before .before .before .before .before .before)))
+    (λ c. place-fits (cleared-place c))
+    (λ c. message-fits (cleared-place c))
+    (λ c. place-low (cleared-place c))
+    (λ c. next-place-fits (cleared-place c))
+    (λ c. left-falls _ _ (c .loop7-test .taken))
     loop7-again
     (λ c. search needs)
-    (λ c. search needs)
-    (λ c. search needs)
-    (λ c. search needs)
+    (λ c. link-low (link (c .before .before .before .before .before .before .before)))
+    (λ c. next-number-fits (link (c .before .before .before) .to))
+    (λ c. left-falls _ _ (c .before .before .before .loop5-test .taken))
     loop5-again
-    (λ c. search needs)
-    (λ c. search needs)
-    (λ c. search needs)
+    (λ c. sender (c .before .before .before) .low)
+    (λ c. next-number-fits (sender (c .before)))
+    (λ c. left-falls _ _ (c .before .loop4-test .taken))
     loop4-again
     loop8-holds
-    (λ c. search needs)
-    (λ c. search needs)
+    (λ c. station-fits (station c))
+    (λ c. station c .low)
     (λ c κs. search needs)
     (λ c. search needs)
     (λ c. search needs)
-    (λ c. search needs)
-    (λ c. search needs)
+    (λ c. station-fits (station (c .before .before .before)))
+    (λ c. station (c .before .before .before) .low)
     expire-requires
-    (λ c. search needs)
-    (λ c. search needs)
-    (λ c. search needs)
-    (λ c. search needs)
-    (λ c. search needs)
-    (λ c. search needs)
-    (λ c. search needs)
-    (λ c. search needs)
+    (λ c. station-fits (station (c .before .before .before .before .before)))
+    (λ c. station (c .before .before .before .before .before) .low)
+    (λ c. station-fits (station (c .before .before .before)))
+    (λ c. station (c .before .before .before) .low)
+    (λ c. number-fits (station (c .before .before .before .before)))
+    (λ c. name-fits (station (c .before .before .before .before)))
+    (λ c. station-fits (station (c .before .before .before .before)))
+    (λ c. station (c .before .before .before .before) .low)
     (λ c κs. search needs)
-    (λ c. search needs)
-    (λ c. search needs)
-    (λ c. search needs)
+    (λ c. station (c .before .before .before .before .before .before .before) .low)
+    (λ c. station-fits (station (c .before .before .before .before .before .before .before)))
+    (λ c. station (c .before .before .before .before .before .before .before) .low)
     loop9-holds
-    (λ c. search needs)
-    (λ c. search needs)
-    (λ c. search needs)
+    (λ c. row-fits (way c .from))
+    (λ c. link-fits (way c))
+    (λ c. link-low (way c))
     (λ c κs. search needs)
-    element-copy-out-count-2
+    (λ c. link-low (way (c .before .before .before)))
     (λ c κs. search needs)
     add-due-2
-    (λ c. search needs)
+    (λ c. places-fit (way (c .before .before .before .before .before)))
     add-t145
     mul-t146
     element-set-from-s-4
-    element-copy-out-s-2
+    (λ c. link-low (way (c .before .before .before .before .before)))
     add-s-2
-    element-write-s-2
-    (λ c κs. search needs)
-    add-q-3
-    loop9-less
+    (λ c. link-low (way (c .before .before .before .before .before .before)))
+    (λ c κs. c .before .before .before .before .before .before .before .loop9 .inv .1)
+    (λ c. next-number-fits (way (c .before .before .before) .to))
+    (λ c. left-falls _ _ (c .before .before .before .loop9-test .taken))
     loop9-again
     (λ c. search needs)
     element-copy-out-sent-more
     sent-more-requires
-    (λ c. search needs)
-    (λ c. search needs)
-    (λ c. search needs)
-    (λ c. search needs)
+    (λ c. sent-fits (station (c .before .before .before .before .before .before .before .before .before .before .before .before .before)))
+    (λ c. station (c .before .before .before .before .before .before .before .before .before .before .before .before .before) .low)
+    (λ c. station-fits (station (c .before .before .before .before .before .before .before)))
+    (λ c. station (c .before .before .before .before .before .before .before) .low)
     slot-requires
-    (λ c. search needs)
-    (λ c. search needs)
-    (λ c. search needs)
-    (λ c. search needs)
+    (λ c. station-fits (station (c .before .before .before .before .before .before .before .before .before)))
+    (λ c. station (c .before .before .before .before .before .before .before .before .before) .low)
+    (λ c. station-fits (station (c .before .before .before .before)))
+    (λ c. station (c .before .before .before .before) .low)
     quiet-station-requires
-    (λ c. search needs)
-    (λ c. search needs)
+    (λ c. next-number-fits (station (c .before .before .before .before .before .before)))
+    (λ c. left-falls _ _ (c .before .before .before .before .before .before .loop8-test .taken))
     loop8-again
     (λ c. search needs)
     loop3-again
