@@ -1,5 +1,5 @@
 // Changes of a system in one place, as a row names it.
-ghost use Prim.Native.Nat.{_≤_, _<_};
+ghost use Prim.Native.Nat.{_<_};
 use crate::numbers::byte;
 use crate::numbers::message_of;
 use crate::numbers::of_message;

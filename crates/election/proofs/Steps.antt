@@ -15,7 +15,7 @@ use Rattle.station.specs.declared.Station.{Station}
 use Rattle.station.proofs.Unchanged.{Unchanged, unchanged, then-unchanged}
 use Rattle.election.specs.Heads.{Hearing, hearing, expiring, slotting, announces}
 use Rattle.election.specs.System.{station, underway}
-use Rattle.election.specs.Tick.{next, heardLink, heardAll, expiredNow, slottedNow, heardBy, settled, sending, stationNext, tick}
+use Rattle.election.specs.Tick.{next, heardLink, heardAll, expiredNow, slottedNow, heardBy, settled, sending, tick}
 use Rattle.election.specs.declared.Message.{Message}
 use Rattle.election.specs.declared.System.{System}
 use Rattle.election.proofs.Heads.{hearing-unchanged, hearing-timeouts, expiring-unchanged, slotting-up, slotting-count, slotting-slot, announces-self}

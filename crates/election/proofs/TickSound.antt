@@ -6,14 +6,14 @@ use mathlib.Core.Bool.{Bool, true, false, cond, not, _&&_}
 use Prim.Native.Nat.{ℕ, zero, suc, _+_, _-_, _*_, _<_, _≤_}
 use native.Mathlib.Omega.{arith}
 use lib.ListN.{length, getD}
-use lib.Dec.{ltb, eqb}
+use lib.Dec.{eqb}
 use borrow.Author.Tests.{eqb-false, le-ltb}
 use Rattle.fit.specs.Fit.{longestDelay}
 use Rattle.lists.proofs.Bools.{cond-elim}
 use Rattle.lists.proofs.Entries.{getD-upTo}
 use Rattle.election.specs.Claims.{LinkRoom}
 use Rattle.election.specs.Sound.{emptyPlace, emptySeat}
-use Rattle.election.specs.System.{noStation, noLink, station, place, from, to, delay, sentBy, underway, isLink, holding, places}
+use Rattle.election.specs.System.{noStation, noLink, station, place, from, to, delay, sentBy, underway, isLink, places}
 use Rattle.election.specs.Tick.{next, settled, sending, later, sent, underwayAfter, seatNext, sentNext, linkNext, tick, ticks}
 use Rattle.election.specs.declared.Message.{Message}
 use Rattle.election.specs.declared.System.{System}

@@ -9,7 +9,6 @@ use Rattle.election.specs.Rehearsals.{at20, run}
 use Rattle.election.specs.Schedule.{schedule}
 use Rattle.election.specs.Sound.{sound}
 use Rattle.election.specs.System.{unused, holding, withLink, places}
-use Rattle.election.specs.declared.Link.{Link}
 use Rattle.election.specs.declared.Message.{Message}
 use Rattle.election.specs.declared.System.{System}
 

@@ -1,14 +1,13 @@
 -- Commands of one byte, and what is turned down.
 use mathlib.Core.List.{List, [], _∷_}
 use mathlib.Core.Bool.{Bool, cond, not, _&&_}
-use Prim.Native.Nat.{ℕ, _+_, _*_, _-_}
+use Prim.Native.Nat.{ℕ, _+_, _*_}
 use lib.ListN.{length, getD}
 use lib.Dec.{leb, ltb, eqb}
 use Rattle.lists.specs.First.{firstFailed}
 use Rattle.fit.specs.Fit.{within, longestDelay}
 use Rattle.station.specs.Limits.{lastTick, mostStarts}
 use Rattle.station.specs.Rules.{started, crashed}
-use Rattle.station.specs.declared.Station.{Station}
 use Rattle.election.specs.Sound.{sound}
 use Rattle.election.specs.System.{station, initial, withStation, withDelay, withoutMessages}
 use Rattle.election.specs.Tick.{ticks}

@@ -1,9 +1,8 @@
 // Whether a sound system could hand over a station: the tests behind refusal 15. No sum in them wraps.
 ghost use mathlib.Core.Path.{_≡_};
 ghost use mathlib.Core.Bool.{cond};
-ghost use Prim.Native.Nat.{ℕ, _+_, _-_, _<_, _≤_, min};
-ghost use lib.Dec.{ltb, eqb};
-ghost use lib.ListN.{getD};
+ghost use Prim.Native.Nat.{_+_, _-_, _<_, _≤_, min};
+ghost use lib.Dec.{eqb};
 ghost use Rattle.station.specs.Rules.{other};
 ghost use Rattle.fit.specs.Fit.{within, ranges, keptIn, cleared, countIn, countsIn, timeoutIn, timeoutsIn, alive, slotIn, timerIn, standing, fit, justSet, timeoutsAt, fitStart, fitCrash, fitExpire, fitMessage, heardBefore, fitHear, unended, ended, fitSlot};
 ghost use Rattle.station.specs.Limits.{longest};

@@ -16,7 +16,6 @@ use Rattle.election.specs.System.{noMessage, noLink, unused, messages, holding,
 use Rattle.layout.specs.declared.Layout.{Layout}
 use Rattle.election.specs.declared.Link.{Link}
 use Rattle.election.specs.declared.Message.{Message}
-use Rattle.election.specs.declared.System.{System}
 
 -- the arrays are full
 pub record Wide (s : Layout) : Type 0 where

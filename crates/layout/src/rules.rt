@@ -1,7 +1,7 @@
 // The fresh system and what set up leaves, laid out; and from a system to its layout and back.
 ghost use mathlib.Core.Path.{_≡_};
 ghost use mathlib.Core.Bool.{cond};
-ghost use Prim.Native.Nat.{ℕ, _+_, _<_, _≤_};
+ghost use Prim.Native.Nat.{_+_, _<_, _≤_};
 ghost use lib.Dec.{ltb};
 ghost use Rattle.election.specs.System.{place, from, to, unused, isLink, unstarted, fresh, initial};
 ghost use Rattle.layout.specs.Layout.{systemOf};

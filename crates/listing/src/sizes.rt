@@ -1,6 +1,6 @@
 // The lengths of a listing's pieces, counted before anything is written.
 ghost use mathlib.Core.Path.{_≡_};
-ghost use Prim.Native.Nat.{_*_, _+_, _≤_};
+ghost use Prim.Native.Nat.{_+_, _≤_};
 ghost use lib.ListN.{length};
 ghost use Rattle.listing.specs.Pieces.{who, known};
 ghost use Rattle.election.specs.Listing.{countOf, vector, stationLine, stationLines, verdictLine, listing};

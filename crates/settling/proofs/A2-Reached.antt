@@ -1,23 +1,18 @@
 -- What holds of every system that a schedule reaches, beyond soundness: A of the settling proof; kept by each tick.
 use mathlib.Core.Path.{_≡_, refl, sym, _∙_}
 use mathlib.Core.Logic.{_≢_}
-use mathlib.Core.Bool.{Bool, true, false, not, _&&_}
-use mathlib.Core.List.{List, [], _∷_}
+use mathlib.Core.Bool.{Bool, true, false}
 use Prim.Native.Nat.{ℕ, _+_, _≤_, _<_}
 use native.Mathlib.Omega.{arith}
-use native.Mathlib.Decide.{ℕ-discrete}
 use native.Mathlib.Nat.{le-of-eq}
-use lib.Dec.{eqb}
-use borrow.Author.Tests.{eqb-false, not-true}
 use Rattle.lists.specs.Every.{All}
-use Rattle.lists.proofs.Bools.{both, cond-elim}
 use Rattle.lists.proofs.Every.{all-map, all-append}
 use Rattle.station.specs.Order.{entry}
 use Rattle.station.specs.declared.Station.{Station}
 use Rattle.station.proofs.Unchanged.{Unchanged}
 use Rattle.election.specs.Heads.{hearing}
-use Rattle.election.specs.System.{station, delay, underway}
-use Rattle.election.specs.Tick.{next, settled, sending, later, sent, underwayAfter, tick}
+use Rattle.election.specs.System.{station, underway}
+use Rattle.election.specs.Tick.{next, settled, later, sent, underwayAfter, tick}
 use Rattle.election.specs.declared.Message.{Message}
 use Rattle.election.specs.declared.System.{System}
 use Rattle.settling.proofs.A1-Sane.{slots-elim, Sane, hear-sane, expire-sane, slot-sane}

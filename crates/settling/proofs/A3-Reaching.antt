@@ -7,14 +7,13 @@ use Prim.Native.Nat.{ℕ, _+_, _-_, _≤_, _<_}
 use native.Mathlib.Decide.{ℕ-discrete}
 use native.Mathlib.Nat.{le-refl}
 use native.Mathlib.Omega.{arith}
-use lib.ListN.{length, getD-replicate}
-use lib.Seq.{getD-set-same, getD-set-other}
+use lib.ListN.{getD-replicate}
 use borrow.Author.Tests.{ne-eqb, eq-eqb}
 use Rattle.fit.specs.Fit.{longestDelay}
 use Rattle.lists.specs.Every.{All}
 use Rattle.lists.specs.First.{firstFailed}
 use Rattle.lists.proofs.Every.{all-map}
-use Rattle.lists.proofs.Sets.{within-list, set-keeps}
+use Rattle.lists.proofs.Sets.{set-keeps}
 use Rattle.station.specs.Order.{entry}
 use Rattle.station.specs.Rules.{started, crashed}
 use Rattle.station.specs.declared.Station.{Station}
@@ -23,7 +22,7 @@ use Rattle.station.proofs.Fields.{started-count, started-recovering, crashed-co
 use Rattle.fit.proofs.Tests.{fit-ranges}
 use Rattle.station.proofs.Vectors.{other-of}
 use Rattle.election.specs.Commands.{Command, SetUp, Start, Crash, Link, Run, Lose, Report, tests, perform}
-use Rattle.election.specs.System.{withStation, withDelay, withoutMessages, noStation, noLink, station, place, messages, holding, underway, fresh, initial}
+use Rattle.election.specs.System.{withStation, withDelay, withoutMessages, noLink, station, place, messages, holding, underway, fresh, initial}
 use Rattle.election.specs.Sound.{sound}
 use Rattle.election.specs.Tick.{ticks}
 use Rattle.election.specs.declared.Message.{Message}

@@ -1,9 +1,8 @@
 -- E. One follower as arithmetic: the three cases that it can be in, and what a tick does to it.
-use mathlib.Core.Path.{_≡_, refl}
+use mathlib.Core.Path.{_≡_}
 use mathlib.Core.Bool.{Bool, true, false}
-use Prim.Native.Nat.{ℕ, zero, suc, _+_, _-_, _*_, _≤_, _<_, zero-le}
+use Prim.Native.Nat.{ℕ, suc, _+_, _-_, _≤_, _<_}
 use native.Mathlib.Omega.{arith}
-use Rattle.settling.proofs.G1-Sums.{failed}
 
 -- One follower, as arithmetic in absolute ticks: whether it trusts L, when its timer ends, `u` its timeout for L less the period,
 -- `dl` a tick by which L's next message reaches it unless one comes sooner.

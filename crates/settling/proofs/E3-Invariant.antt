@@ -3,8 +3,8 @@ use mathlib.Core.Path.{_≡_, refl, sym, ap, _∙_}
 use mathlib.Core.Logic.{_≢_, _⊎_}
 use mathlib.Core.Logic._⊎_.{inl, inr}
 use mathlib.Core.Bool.{Bool, true, false}
-use mathlib.Core.List.{List, [], _∷_, _++_}
-use Prim.Native.Nat.{ℕ, _+_, _*_, _≤_, _<_, min, max}
+use mathlib.Core.List.{List}
+use Prim.Native.Nat.{ℕ, _+_, _*_, _≤_, _<_, max}
 use native.Mathlib.Numerals.{add-one}
 use native.Mathlib.Omega.{arith}
 use native.Mathlib.Decide.{ℕ-discrete, decLe}
@@ -22,7 +22,7 @@ use Rattle.election.specs.declared.Message.{Message}
 use Rattle.election.specs.declared.System.{System}
 use Rattle.settling.proofs.B-Calm.{Stretch, keyL, Calm, expire-calm, calm-self}
 use Rattle.settling.proofs.A1-Sane.{Known, Sane}
-use Rattle.settling.proofs.D-Deadline.{soonest, soonest-le, soonest-mono, soonest-append, soonest-lo, deadline}
+use Rattle.settling.proofs.D-Deadline.{soonest, soonest-le, soonest-mono, soonest-append, deadline}
 use Rattle.settling.proofs.E2-Follower.{Due, due?, FairTo, spare, ticked, all-calm, ticked-calm, move-hit, move-quiet}
 use Rattle.election.proofs.Places.{In, tick-station, tick-underway}
 use Rattle.settling.proofs.E1-Phase.{Phase, Move, early, move-phase}

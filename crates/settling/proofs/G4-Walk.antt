@@ -18,7 +18,7 @@ use Rattle.election.specs.Commands.{Command, SetUp, Start, Crash, Link, Run, Lo
 use Rattle.election.specs.System.{withDelay, withoutMessages, noStation, station, delay, underway}
 use Rattle.election.specs.Listing.{trusts, agreed}
 use Rattle.settling.specs.Settling.{moments, ticksOf, befores, divided, dividedTicks, Permitted, LosesNone, Each, Sent}
-use Rattle.election.specs.History.{accepted, after}
+use Rattle.election.specs.History.{accepted}
 use Rattle.election.specs.Tick.{tick, ticks}
 use Rattle.election.specs.declared.Message.{Message}
 use Rattle.election.specs.declared.System.{System}

@@ -2,28 +2,25 @@
 use mathlib.Core.Path.{_≡_, refl, sym, ap, subst, _∙_}
 use mathlib.Core.Logic.{_⊎_}
 use mathlib.Core.Logic._⊎_.{inl, inr}
-use mathlib.Core.Bool.{Bool, true, false, cond, true≢false}
+use mathlib.Core.Bool.{true, false, cond}
 use mathlib.Core.List.{List, [], _∷_}
 use Prim.Native.Nat.{ℕ, zero, suc, _+_, _-_, _*_, _/_, _≤_, _<_}
-use native.Mathlib.Decide.{ℕ-discrete}
-use native.Mathlib.Nat.{zero-add}
 use native.Mathlib.Omega.{arith}
-use lib.Dec.{eqb, ltb}
-use lib.ListN.{length, getD, take, drop}
-use borrow.Author.Tests.{not-false, eqb-true, eq-eqb}
+use lib.Dec.{eqb}
+use lib.ListN.{length, getD, take}
+use borrow.Author.Tests.{not-false, eqb-true}
 use Rattle.lists.specs.Every.{All}
-use Rattle.lists.specs.First.{firstFailed}
 use Rattle.lists.proofs.Bools.{cond-elim}
 use Rattle.lists.proofs.Every.{all-append}
 use Rattle.lists.proofs.Test.{all-at}
 use Rattle.station.specs.declared.Station.{Station}
-use Rattle.election.specs.Commands.{Command, SetUp, Start, Crash, Link, Run, Lose, Report, decode, operands, tests, ruling, refusal, perform, command}
+use Rattle.election.specs.Commands.{Command, SetUp, Start, Crash, Link, Run, Lose, Report, decode}
 use Rattle.election.specs.Listing.{trusts, agreed}
-use Rattle.election.specs.Schedule.{End, mostBytes, follow, schedule}
+use Rattle.election.specs.Schedule.{schedule}
 use Rattle.settling.specs.Settling.{moments, ticksOf, befores, divided, dividedTicks, Quiet, upHeads, bound, answered, given, Settling}
-use Rattle.election.specs.History.{accepted, after, history, commands, starts, isUp, reached}
+use Rattle.election.specs.History.{accepted, after, commands, reached}
 use Rattle.election.specs.Sound.{sound}
-use Rattle.election.specs.System.{noStation, station, fresh, initial}
+use Rattle.election.specs.System.{noStation, station, fresh}
 use Rattle.election.specs.Tick.{sending, tick}
 use Rattle.election.specs.declared.System.{System}
 use Rattle.election.proofs.Accepting.{Accepts, accepts, ruling-tests}

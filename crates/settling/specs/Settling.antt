@@ -4,13 +4,13 @@ use mathlib.Core.Logic.{_≢_, _⊎_}
 use mathlib.Core.List.{List, [], _∷_, _++_}
 use mathlib.Core.Bool.{Bool, true, false, cond, not, _&&_}
 use Prim.Native.Nat.{ℕ, zero, suc, _+_, _-_, _*_, _/_, _<_, _≤_}
-use lib.ListN.{length, take, drop}
+use lib.ListN.{take}
 use lib.Dec.{eqb}
 use Rattle.lists.specs.Count.{countTo}
 use Rattle.lists.specs.Every.{All}
 use Rattle.lists.specs.Largest.{maxTo}
 use Rattle.station.specs.Order.{entry}
-use Rattle.election.specs.Commands.{Command, SetUp, Start, Crash, Link, Run, Lose, Report, decode, operands, ruling, perform, command}
+use Rattle.election.specs.Commands.{Command, SetUp, Start, Crash, Link, Run, Lose, Report, decode, command}
 use Rattle.election.specs.Listing.{agreed}
 use Rattle.election.specs.History.{accepted, after, commands, starts, isUp, reached}
 use Rattle.election.specs.Schedule.{schedule}

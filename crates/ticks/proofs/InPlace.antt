@@ -20,9 +20,7 @@ use Rattle.lists.proofs.Entries.{length-over, over-beyond, over-front}
 use Rattle.lists.proofs.Filter.{Kept, kept-none, kept-takes, kept-leaves}
 use Rattle.lists.proofs.Test.{all-at, all-of}
 use Rattle.lists.proofs.Segment.{length-segment, getD-segment, segment-set, segment-other}
-use Rattle.station.specs.Rules.{heard}
 use Rattle.station.specs.declared.Station.{Station}
-use Rattle.station.proofs.Unchanged.{heard-unchanged, heard-timeouts}
 use Rattle.layout.specs.Layout.{linkOf, systemOf}
 use Rattle.election.specs.Idle.{quietLink}
 use Rattle.election.specs.Sound.{messageAt}

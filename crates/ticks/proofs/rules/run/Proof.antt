@@ -18,7 +18,7 @@ use Rattle.layout.proofs.Stores.{Wide, part, length-links, Clearing, clearing-n
 use Rattle.election.specs.System.{atTick, noStation, noMessage, noLink, places}
 use Rattle.election.specs.declared.System.{System}
 use Rattle.election.proofs.Soundness.{sound-of}
-use Rattle.ticks.proofs.Chances.{Chances, chances-first, chances-station, chances-says, chances-late, chances-n, chances-period, chances-sent, chances-skips, chances-free, chances-sends, chances-done, Turn, turn-ends, turn-stays, turn-sends, turn-rests, turn-slots, turn-waits}
+use Rattle.ticks.proofs.Chances.{Chances, chances-first, chances-station, chances-says, chances-late, chances-period, chances-skips, chances-free, chances-sends, chances-done, Turn, turn-ends, turn-stays, turn-sends, turn-rests, turn-slots, turn-waits}
 use Rattle.ticks.proofs.Counted.{chances-counted}
 use Rattle.ticks.proofs.Hearing.{Hearing, hearing-none, hearing-tick, hearing-ready, hearing-row, hearing-rests, timer-ready}
 use Rattle.ticks.proofs.InPlace.{Packing, packing-none, packing-read, packing-keeps, packing-drops, Heard, heard-first, heard-waits, heard-due, heard-down, Beside, beside-none, beside-stores}
