@@ -68,7 +68,7 @@ pub record Laid (links : List Link) (used : List ℕ) (ms : List Message) (k : �
 pub laid-none : (links : List Link) (used : List ℕ) (ms : List Message) → length used ≡ 64 → length ms ≡ (64 * places) → Laid links used ms 0
 laid-none links used ms a b = record { counts = a; size = b; same = λ j h. absurd (omega arith) }
 
-pub laid-turn : (links : List Link) (used : List ℕ) (ms ms′ : List Message) (k : ℕ) → Laid links used ms k → k < 64 → Placed k (getD links k noLink .messages) ms ms′ 4 → length (getD links k noLink .messages) ≡ places
+pub laid-turn : (links : List Link) (used : List ℕ) (ms ms′ : List Message) (k : ℕ) → Laid links used ms k → k < 64 → Placed k (getD links k noLink .messages) ms ms′ places → length (getD links k noLink .messages) ≡ places
     → Laid links (set used k (getD links k noLink .used)) ms′ (k + 1)
 laid-turn links used ms ms′ k a hk b four = record { counts = length-set used k u ∙ a .counts; size = b .size; same = λ j h. at j h (ℕ-discrete j k) }
   where
@@ -91,6 +91,6 @@ abbrev pub taken : List Message → ℕ → ℕ → List Message → List Messag
 taken ms k i old = firsts i (λ i. getD ms (places * k + i) noMessage) old
 
 -- with all four, and the count, they are the link
-pub taken-all : (used : List ℕ) (ms : List Message) (k : ℕ) (old : List Message) (l : Link) → length old ≡ places → l .used ≡ getD used k 0 → l .messages ≡ taken ms k 4 old → l ≡ linkOf used ms k
+pub taken-all : (used : List ℕ) (ms : List Message) (k : ℕ) (old : List Message) (l : Link) → length old ≡ places → l .used ≡ getD used k 0 → l .messages ≡ taken ms k places old → l ≡ linkOf used ms k
 unfolding segment
 taken-all used ms k old l h a b = sym (link-is used ms k l (sym a) (sym (b ∙ firsts-all places _ old h)))

@@ -6,6 +6,7 @@ pub mod Hearing
 pub mod InPlace
 pub mod Indices
 pub mod Quiet
+pub mod Reading
 pub mod Ready
 pub mod Run
 pub mod Sent

@@ -8,21 +8,21 @@ use native.Mathlib.Omega.{arith}
 use lib.ListN.{length, set, getD, length-map, length-set}
 use lib.Seq.{getD-set-same}
 use borrow.Author.Needs.{needs}
-use Rattle.lists.proofs.Segment.{length-segment}
 use Rattle.station.specs.Limits.{lastTick}
 use Rattle.station.specs.declared.Station.{Station}
 use Rattle.layout.specs.Layout.{systemOf}
 use Rattle.layout.specs.declared.Layout.{Layout}
 use Rattle.layout.proofs.Full.{counts-owned, held-of}
 use Rattle.layout.proofs.Stores.{Wide, part, length-links, Clearing, clearing-none, clearing-turn, used-read}
-use Rattle.election.specs.System.{atTick, noStation, noMessage, noLink, places}
+use Rattle.election.specs.System.{atTick, noStation, noLink, places}
 use Rattle.election.specs.declared.System.{System}
 use Rattle.election.proofs.Soundness.{sound-of}
 use Rattle.ticks.proofs.Chances.{Chances, chances-first, chances-station, chances-says, chances-late, chances-period, chances-skips, chances-free, chances-sends, chances-done, Turn, turn-ends, turn-stays, turn-sends, turn-rests, turn-slots, turn-waits}
 use Rattle.ticks.proofs.Counted.{chances-counted}
 use Rattle.ticks.proofs.Hearing.{Hearing, hearing-none, hearing-tick, hearing-ready, hearing-row, hearing-rests, timer-ready}
-use Rattle.ticks.proofs.InPlace.{Packing, packing-none, packing-read, packing-keeps, packing-drops, Heard, heard-first, heard-waits, heard-due, heard-down, Beside, beside-none, beside-stores}
+use Rattle.ticks.proofs.InPlace.{Packing, Heard}
 use Rattle.ticks.proofs.Indices.{Number, Ends, Place, number-of, ends-of, place-of, place-before, number-fits, name-fits, next-number-fits, row-fits, station-fits, sent-fits, link-low, link-fits, places-fit, place-low, place-fits, message-fits, next-place-fits, left-falls, tick-fits, next-low, all-done, none-low, row-start, used-more-fits, at-least, at-most, as-most, one-more, no-more, long-enough}
+use Rattle.ticks.proofs.Reading.{Reading, reading-none, reading-keeps, reading-hears, reading-passes}
 use Rattle.ticks.proofs.Run.{Going, going-first, going-done, going-ticking, going-on}
 use Rattle.ticks.proofs.Silent.{Silent, silent-none, silent-marks, silent-leaves, silent-row, silent-stores, silent-sets, silent-sends, Gone, gone-more, gone-stores}
 use Rattle.ticks.proofs.Taken.{Taken, taken-none, taken-row, taken-rests, none-before, taken-few, taken-skips, link-used-is, link-wide, link-taken, link-heard, none-heard}
@@ -44,7 +44,7 @@ abbrev μ-loop : tie.MeasureT-loop
 
 abbrev Inv-loop6 : tie.InvT-loop6
 Inv-loop6 t s₀ end n empty busy now until₀ q more₀ p k u to₀ i₀ s until more to i =
-    (i ≤ u) × (u ≤ places) × (now ≤ until) × (until ≤ until₀) × (to ≤ i) × Packing now k s₀ s until to i × Heard (systemOf s₀) (p + 1) (q + 1) now (part (s₀ .messages) k) (getD (s₀ .stations) p noStation) (getD (s .stations) p noStation) i × Beside p (s₀ .stations) (s .stations)
+    (i ≤ u) × (u ≤ places) × (now ≤ until) × (until ≤ until₀) × (to ≤ i) × Reading q p k now s₀ s until to i
     × (more ≡ false → (more₀ ≡ false) × (to ≡ 0))
 
 abbrev μ-loop6 : tie.MeasureT-loop6
@@ -187,7 +187,7 @@ loop6-holds c =
     let hp : p < n = omega (arith, c .before .before .before .loop5-test .taken) in
     let k = 8 * q + p in
     let hk : k < 64 = omega (arith, i .0, hp, hq) in
-    (search needs, omega (arith, taken-few n now r _ _ p q (i .0) hp hq gone, used-read x k hk, c .before .count .ensures), i5 .1, omega arith, omega arith, packing-none _ _ _ _ (i5 .3), heard-first _ _ _ _ _ _, beside-none _ _, λ e. (e, refl))
+    (search needs, omega (arith, taken-few n now r _ _ p q (i .0) hp hq gone, used-read x k hk, c .before .count .ensures), i5 .1, omega arith, omega arith, reading-none _ _ _ _ _ _ (i5 .3), λ e. (e, refl))
 
 hear-requires : tie.Need-hear-requires Inv-loop2 μ-loop2 Inv-loop μ-loop Inv-loop6 μ-loop6 Inv-loop7 μ-loop7 Inv-loop5 μ-loop5 Inv-loop4 μ-loop4 Inv-loop9 μ-loop9 Inv-loop8 μ-loop8 Inv-loop3 μ-loop3
 hear-requires c κs =
@@ -203,64 +203,45 @@ hear-requires c κs =
     let ticking = going-ticking _ _ r (i .3) (c .before .before .before .before .before .before .before .before .before .before .before .before .before .before .before .loop3-test .taken) in
     let hq′ : q < r .n = omega (arith, i .3 .size) in
     let hp : p < n = omega (arith, c .before .before .before .before .before .before .before .before .before .before .loop5-test .taken) in
-    hearing-ready r n p q (systemOf x) so ticking hp (sym (i .3 .size)) hq′ (getD (c .before .before .before .before .before .before .loop6 .s .stations) p noStation) (c .before .before .before .before .before .before .loop6 .inv .6 .timeouts)
+    hearing-ready r n p q (systemOf x) so ticking hp (sym (i .3 .size)) hq′ (getD (c .before .before .before .before .before .before .loop6 .s .stations) p noStation) (c .before .before .before .before .before .before .loop6 .inv .5 .heard .timeouts)
 
 loop6-again : tie.Need-loop6-again Inv-loop2 μ-loop2 Inv-loop μ-loop Inv-loop6 μ-loop6 Inv-loop7 μ-loop7 Inv-loop5 μ-loop5 Inv-loop4 μ-loop4 Inv-loop9 μ-loop9 Inv-loop8 μ-loop8 Inv-loop3 μ-loop3
 loop6-again c =
-    let i = c .before .before .before .before .before .before .before .before .before .before .before .before .loop3 .inv in
-    let r = systemOf (c .before .before .before .before .before .before .before .before .before .before .before .before .loop3 .s) in
-    let n = c .before .before .before .before .before .before .before .before .before .before .before .before .before .before .before .before .args .t2 .n in
-    let now = c .before .before .before .before .before .before .before .before .before .before .before .before .loop3 .s .tick + 1 in
-    let q = c .before .before .before .before .before .before .before .before .before .before .loop4 .q in
     let i4 = c .before .before .before .before .before .before .before .before .before .before .loop4 .inv in
-    let p = c .before .before .before .before .before .before .before .loop5 .p in
-    let x = c .before .before .before .before .before .before .before .loop5 .s in
-    let i5 = c .before .before .before .before .before .before .before .loop5 .inv in
-    let so = i5 .6 r (i4 .4) (i4 .5) .1 in
-    let k = 8 * q + p in
-    let hk : k < 64 = link-low (link (c .before .before .before .before .before .before)) in
+    let so = c .before .before .before .before .before .before .before .loop5 .inv .6 (systemOf (c .before .before .before .before .before .before .before .before .before .before .before .before .loop3 .s)) (i4 .4) (i4 .5) .1 in
+    let hk = link-low (link (c .before .before .before .before .before .before)) in
+    let hj = place (c .before) .low in
     let i6 = c .before .before .loop6 .inv in
     let s = c .before .before .loop6 .s in
-    let j = c .before .before .loop6 .i in
-    let m = getD (s .messages) (places * k + j) noMessage in
-    let hj : j < places = place (c .before) .low in
-    let hl : j < length (part (x .messages) k) = long-enough _ _ _ hj (length-segment 4 noMessage (x .messages) k) in
-    let old = packing-read now k x _ _ _ _ (i6 .5) hk hj in
-    let long : p < length (s .stations) = long-enough _ _ _ (link (c .before .before .before .before .before .before) .to .low) (i6 .7 .long ∙ so .long) in
+    let next = next-low _ _ (c .before .loop6-test .taken) in
     ⊎-elim
     (λ w. (
-      next-low _ _ (c .before .loop6-test .taken),
+      next,
       i6 .1,
       at-least _ _ _ (w .4) (w .1 .ensures .0),
       at-most _ _ _ _ (w .4) (w .1 .ensures .1) (i6 .3),
       one-more _ _ _ (w .6) (i6 .4),
-      packing-keeps _ k _ _ _ _ _ (i6 .5) hk hj _ _ _ _ _ refl (w .0 .taken) (w .1 .ensures .1) (w .1 .ensures .2) (w .3) (w .4) (w .6),
-      heard-waits _ (p + 1) (q + 1) now _ _ _ _ j m (i6 .6) hl old (w .0 .taken) (ap (λ (z : Layout). getD (z .stations) p noStation) (w .3)),
-      subst (λ (z : Layout). Beside p (x .stations) (z .stations)) (sym (w .3)) (i6 .7),
+      reading-keeps _ _ _ _ _ s _ _ _ (i6 .5) hk hj _ _ _ _ (w .0 .taken) (w .1 .ensures .1) (w .1 .ensures .2) (w .3) (w .4) (w .6),
       λ e. absurd (true≢false (sym (w .5) ∙ e)),
     ))
     (λ v. ⊎-elim
     (λ w. (
-      next-low _ _ (c .before .loop6-test .taken),
+      next,
       i6 .1,
       at-least _ _ _ (w .7) (i6 .2),
       as-most _ _ _ (w .7) (i6 .3),
       no-more _ _ _ (w .9) (i6 .4),
-      packing-drops _ k _ _ _ _ _ (i6 .5) hk hj _ _ _ _ _ refl (w .0 .left) (w .6) (w .7) (w .9),
-      heard-due _ (p + 1) (q + 1) now _ _ _ _ j m (i6 .6) hl old (w .0 .left) (w .1 .taken) (ap (λ (z : Layout). getD (z .stations) p noStation) (w .6) ∙ getD-set-same (s .stations) p _ noStation long ∙ w .5 .ensures),
-      subst (λ (z : Layout). Beside p (x .stations) (z .stations)) (sym (w .6)) (beside-stores p _ _ _ (i6 .7)),
-      λ e. (i6 .8 (sym (w .8) ∙ e) .0, w .9 ∙ i6 .8 (sym (w .8) ∙ e) .1),
+      reading-hears _ _ _ _ _ s _ _ _ (i6 .5) hk hj _ _ _ (w .0 .left) (w .7) (w .9) _ (long-enough _ _ _ (link (c .before .before .before .before .before .before) .to .low) (i6 .5 .beside .long ∙ so .long)) (w .1 .taken) (w .5 .ensures) (w .6),
+      λ e. (i6 .6 (sym (w .8) ∙ e) .0, w .9 ∙ i6 .6 (sym (w .8) ∙ e) .1),
     ))
     (λ w. (
-      next-low _ _ (c .before .loop6-test .taken),
+      next,
       i6 .1,
       at-least _ _ _ (w .3) (i6 .2),
       as-most _ _ _ (w .3) (i6 .3),
       no-more _ _ _ (w .5) (i6 .4),
-      packing-drops _ k _ _ _ _ _ (i6 .5) hk hj _ _ _ (s .stations) _ refl (w .0 .left) (w .2) (w .3) (w .5),
-      heard-down _ (p + 1) (q + 1) now _ _ _ _ j m (i6 .6) hl old (w .0 .left) (w .1 .left) (ap (λ (z : Layout). getD (z .stations) p noStation) (w .2)),
-      subst (λ (z : Layout). Beside p (x .stations) (z .stations)) (sym (w .2)) (i6 .7),
-      λ e. (i6 .8 (sym (w .4) ∙ e) .0, w .5 ∙ i6 .8 (sym (w .4) ∙ e) .1),
+      reading-passes _ _ _ _ _ s _ _ _ (i6 .5) hk hj _ _ _ (w .0 .left) (w .3) (w .5) (w .1 .left) (w .2),
+      λ e. (i6 .6 (sym (w .4) ∙ e) .0, w .5 ∙ i6 .6 (sym (w .4) ∙ e) .1),
     ))
     v)
     (c .if4 .came)
@@ -268,7 +249,7 @@ loop6-again c =
 loop7-holds : tie.Need-loop7-holds Inv-loop2 μ-loop2 Inv-loop μ-loop Inv-loop6 μ-loop6 Inv-loop7 μ-loop7 Inv-loop5 μ-loop5 Inv-loop4 μ-loop4 Inv-loop9 μ-loop9 Inv-loop8 μ-loop8 Inv-loop3 μ-loop3
 loop7-holds c =
     let i6 = c .before .loop6 .inv in
-    (omega arith, omega (arith, i6 .0, i6 .4), i6 .1, clearing-none _ _ _ (i6 .5 .size))
+    (omega arith, omega (arith, i6 .0, i6 .4), i6 .1, clearing-none _ _ _ (i6 .5 .packing .size))
 
 loop7-again : tie.Need-loop7-again Inv-loop2 μ-loop2 Inv-loop μ-loop Inv-loop6 μ-loop6 Inv-loop7 μ-loop7 Inv-loop5 μ-loop5 Inv-loop4 μ-loop4 Inv-loop9 μ-loop9 Inv-loop8 μ-loop8 Inv-loop3 μ-loop3
 loop7-again c =
@@ -301,21 +282,21 @@ loop5-again c =
     (λ w.
     let i6 = w .1 .inv in
     let zu : w .1 .i ≡ u = omega (arith, w .2 .left, i6 .0) in
-    let pack = subst (Packing now k x (w .1 .s) (w .1 .until) (w .1 .to)) zu (i6 .5) in
+    let pack = subst (Packing now k x (w .1 .s) (w .1 .until) (w .1 .to)) zu (i6 .5 .packing) in
     let zj : w .3 .j ≡ u = omega (arith, w .4 .left, w .3 .inv .1) in
     let clear = subst (Clearing k (w .1 .s) (w .3 .s) (w .1 .to)) zj (w .3 .inv .3) in
-    let said = subst (Heard (systemOf x) (p + 1) (q + 1) now (part (x .messages) k) (getD (x .stations) p noStation) (getD (w .1 .s .stations) p noStation)) zu (i6 .6) in
+    let said = subst (Heard (systemOf x) (p + 1) (q + 1) now (part (x .messages) k) (getD (x .stations) p noStation) (getD (w .1 .s .stations) p noStation)) zu (i6 .5 .heard) in
     let us = link-used-is n now p q (i .0) hp hq x _ _ _ _ u pack clear (i5 .3) (i6 .1) e _ (w .5) in (
       omega arith,
       rw (w .6) (i6 .2),
       omega (arith, w .6, i6 .3, i5 .2),
       link-wide n now p q (i .0) hp hq x _ _ _ _ u pack clear (i5 .3) (i6 .1) e _ (w .5),
       subst (λ (l : List ℕ). Silent n l busy (8 * n)) (sym us) (silent-stores n (x .used) busy (8 * n) (i .0) (i5 .4) q p _ (omega (arith, i .0, hp)) (c .before .before .before .before .before .if2 .taken)),
-      subst (λ (l : List ℕ). Gone l q (p + 1) (c .if3 .more)) (sym us) (gone-stores (x .used) q p _ _ _ (i5 .3 .used) hk (i5 .5) (λ b. i6 .8 (sym (w .7) ∙ b))),
+      subst (λ (l : List ℕ). Gone l q (p + 1) (c .if3 .more)) (sym us) (gone-stores (x .used) q p _ _ _ (i5 .3 .used) hk (i5 .5) (λ b. i6 .6 (sym (w .7) ∙ b))),
       λ r₁ a b.
           let so₁ = i5 .6 r₁ a b in (
             link-taken n now p q (i .0) hp hq x _ _ _ _ u pack clear (i5 .3) (i6 .1) e _ (w .5) (w .0 .taken) r₁ _ (so₁ .0) _ (w .6) (i6 .3),
-            link-heard n now p q (i .0) hp hq x _ _ _ _ u pack clear (i5 .3) (i6 .1) e _ (w .5) (w .0 .taken) r₁ _ (so₁ .0) (so₁ .1) (tick ∙ hearing-tick r₁ n 0 q _ b) said (i6 .7),
+            link-heard n now p q (i .0) hp hq x _ _ _ _ u pack clear (i5 .3) (i6 .1) e _ (w .5) (w .0 .taken) r₁ _ (so₁ .0) (so₁ .1) (tick ∙ hearing-tick r₁ n 0 q _ b) said (i6 .5 .beside),
           ),
     ))
     (λ w. (
