@@ -1,25 +1,9 @@
 -- The tables of specs/Rehearsals.antt, computed.
 use mathlib.Core.Path.{refl}
-use Rattle.lists.specs.Count.{countTo}
-use Rattle.lists.specs.Entries.{upTo, over}
-use Rattle.lists.specs.Fold.{each}
 use Rattle.lists.specs.Join.{joinTo}
-use Rattle.lists.specs.Test.{allTo}
-use Rattle.station.specs.Order.{before}
-use Rattle.station.specs.Rules.{timeoutsOf, started, crashed, joined, adopted, settled, heard, expired, slotted}
-use Rattle.fit.specs.Fit.{ranges, keptIn, cleared, countsIn, timeoutsIn, alive, slotIn, timerIn, standing, fit}
-use Rattle.election.specs.System.{messages, holding, fresh, initial}
-use Rattle.election.specs.Tick.{heardLink, heardAll, expiredNow, slottedNow, settled as settledIn, sending, later, sent, tick, ticks}
-use Rattle.election.specs.Sound.{emptyStation, emptyMessage, messageIn, beforeSlot, linkIn, emptyPlace, emptySeat, placeIn, stationIn, sound}
-use Rattle.election.specs.Commands.{decode, refusal, perform, command}
-use Rattle.election.specs.Schedule.{follow, schedule}
 use Rattle.election.specs.Listing.{digits, countOf, vector, status, leaderOf, vectorOf, stationLine, stationLines, dark, agreed, aLeader, verdict, verdictLine, listingOf, reported, endLine, reports, output}
 use Rattle.election.specs.Rehearsals.{Rehearsed, NoneOfTheErrors}
-
--- every rule, to be unfolded
-rules : Unit {0}
-unfolding countTo upTo over each allTo before timeoutsOf started crashed joined adopted settled heard expired slotted ranges keptIn cleared countsIn timeoutsIn alive slotIn timerIn standing fit messages holding fresh initial heardLink heardAll expiredNow slottedNow settledIn sending later sent tick ticks emptyStation emptyMessage messageIn beforeSlot linkIn emptyPlace emptySeat placeIn stationIn sound decode refusal perform command follow schedule
-rules = tt
+use Rattle.election.proofs.Opened.{rules}
 
 pub errors-ruled-out : NoneOfTheErrors
 unfolding rules

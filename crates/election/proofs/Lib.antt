@@ -16,6 +16,7 @@ pub mod InitialSound
 pub mod KeepsSound
 pub mod Links
 pub mod NeverUnsound
+pub mod Opened
 pub mod Order
 pub mod Places
 pub mod Soundness

@@ -1,5 +1,5 @@
-// The types of the election: messages, links, the system, and the answers. There is no function here:
-// specs/ has the definitions, proofs/ the theorems, the settling bound among them.
+// The election of all stations over links: the types messages, links, system, and the answers. There is no function here:
+// specs/ has the definitions in the paper's order, proofs/ the theorems.
 use station::Station;
 
 // A LEADER under way: the tick of its sending, the tick at which it is due, and the sender's counts.

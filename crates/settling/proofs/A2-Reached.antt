@@ -1,4 +1,4 @@
--- What holds of every system that a schedule reaches, beyond soundness: A of the settling proof; kept by each tick.
+-- A. What holds of every system that a schedule reaches, beyond soundness; kept by each tick.
 use mathlib.Core.Path.{_≡_, refl, sym, _∙_}
 use mathlib.Core.Logic.{_≢_}
 use mathlib.Core.Bool.{Bool, true, false}

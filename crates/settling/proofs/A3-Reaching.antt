@@ -1,4 +1,4 @@
--- Every accepted command keeps what holds of reached systems.
+-- A. Every accepted command keeps what holds of reached systems.
 use mathlib.Core.Path.{_≡_, sym, ap, _∙_}
 use mathlib.Core.Logic.{_≢_}
 use mathlib.Core.Bool.{true, false, cond, true≢false}

@@ -1,4 +1,4 @@
--- What one tick does to a steady station other than L, once every leader is late.
+-- E. What one tick does to a steady station other than L, once every leader is late.
 use mathlib.Core.Path.{_≡_, refl, sym, ap, _∙_}
 use mathlib.Core.Logic.{_≢_, _⊎_}
 use mathlib.Core.Logic._⊎_.{inl, inr}

@@ -1,4 +1,4 @@
--- Laws of sums, and of how many tests fail.
+-- G. Laws of sums, and of how many tests fail.
 use mathlib.Core.Path.{_≡_, refl, sym, ap, _∙_}
 use mathlib.Core.Logic.{_≢_}
 use mathlib.Core.Bool.{Bool, true, false, cond, _&&_}

@@ -1,4 +1,4 @@
--- The divided ticks of a quiet stretch, counted: F and G of the settling proof.
+-- G. The divided ticks of a quiet stretch, counted by what the followers have left to lose.
 use mathlib.Core.Path.{_≡_, refl, sym, _∙_}
 use mathlib.Core.Logic.{_≢_}
 use mathlib.Core.Bool.{Bool, true, false, cond}

@@ -1,4 +1,4 @@
--- The invariant holds where a quiet stretch begins.
+-- G. The invariant holds where a quiet stretch begins.
 use mathlib.Core.Path.{_≡_, refl, sym, _∙_}
 use mathlib.Core.Logic.{_≢_, _⊎_}
 use mathlib.Core.Logic._⊎_.{inl, inr}

@@ -1,4 +1,4 @@
--- The count of divided ticks along the entries of a quiet stretch.
+-- G. The count of divided ticks along the entries of a quiet stretch.
 use mathlib.Core.Path.{_≡_, refl, sym, ap, subst, _∙_}
 use mathlib.Core.Logic.{_≢_}
 use mathlib.Core.Bool.{Bool, true, false, cond, not}

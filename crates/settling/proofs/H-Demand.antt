@@ -1,4 +1,4 @@
--- Demand 3, from the schedule's bytes and a list of byte strings.
+-- H. Who sends in a tick that is not divided; and demand 3, from the schedule's bytes and a list of byte strings.
 use mathlib.Core.Path.{_≡_, refl, sym, ap, subst, _∙_}
 use mathlib.Core.Logic.{_⊎_}
 use mathlib.Core.Logic._⊎_.{inl, inr}

@@ -6,29 +6,21 @@ use native.Mathlib.Omega.{arith}
 use lib.Dec.{ltb}
 use lib.ListN.{length, take}
 use borrow.Author.Tests.{ltb-true}
-use Rattle.lists.specs.Count.{countTo}
-use Rattle.lists.specs.Entries.{upTo, over}
-use Rattle.lists.specs.Fold.{each}
 use Rattle.lists.specs.Largest.{maxTo}
-use Rattle.lists.specs.Test.{allTo}
-use Rattle.station.specs.Order.{before}
-use Rattle.station.specs.Rules.{timeoutsOf, started, crashed, joined, adopted, settled, heard, expired, slotted}
-use Rattle.fit.specs.Fit.{ranges, keptIn, cleared, countsIn, timeoutsIn, alive, slotIn, timerIn, standing, fit}
-use Rattle.election.specs.System.{station, messages, holding, underway, fresh, initial}
-use Rattle.election.specs.Tick.{heardLink, heardAll, expiredNow, slottedNow, sending, later, sent, tick, ticks, settled as settledIn}
-use Rattle.election.specs.Sound.{emptyStation, emptyMessage, messageIn, beforeSlot, linkIn, emptyPlace, emptySeat, placeIn, stationIn, sound}
-use Rattle.election.specs.Commands.{decode, ruling, refusal, perform, command}
-use Rattle.election.specs.Schedule.{follow, schedule}
+use Rattle.fit.specs.Fit.{alive}
+use Rattle.election.specs.System.{station, underway}
+use Rattle.election.specs.Commands.{ruling, refusal}
 use Rattle.election.specs.Listing.{agreed}
 use Rattle.settling.specs.Settling.{moments, befores, dividedTicks, longestWait, longestTimeout, upHeads, given}
 use Rattle.election.specs.History.{after, history, commands, starts, isUp}
+use Rattle.election.proofs.Opened.{rules}
 use Rattle.settling.specs.Instance.{start, bytes, stretch, d, L, begin, Instance, bytesOfCrash, stretchOfCrash, CrashOfL, bytesOfLowest, stretchOfLowest, beginOfLowest, LowestNumber}
 use Rattle.election.specs.declared.System.{System}
 use Rattle.settling.proofs.Tested.{every, implies, pairs, sentTest, arrivingTest, eachTest, permittedTest, losesNoneTest, firstTest, found, found-accepted, found-first, found-none-lost, found-none-cut, found-arriving, found-within, found-quiet, found-all-ticks, found-divided, found-bound, found-passed}
 
 -- every definition that is computed with: what unfolds this name unfolds them
 computing : Unit {0}
-unfolding countTo upTo over each maxTo allTo before timeoutsOf started crashed joined adopted settled heard expired slotted ranges keptIn cleared countsIn timeoutsIn alive slotIn timerIn standing fit messages holding fresh initial heardLink heardAll expiredNow slottedNow settledIn sending later sent tick ticks emptyStation emptyMessage messageIn beforeSlot linkIn emptyPlace emptySeat placeIn stationIn sound decode refusal perform command follow schedule agreed after history starts isUp moments befores dividedTicks longestWait longestTimeout upHeads given every implies pairs sentTest arrivingTest eachTest permittedTest losesNoneTest firstTest found
+unfolding rules maxTo agreed after history starts isUp moments befores dividedTicks longestWait longestTimeout upHeads given every implies pairs sentTest arrivingTest eachTest permittedTest losesNoneTest firstTest found
 computing = tt
 
 -- the instance

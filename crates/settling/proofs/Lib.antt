@@ -1,4 +1,13 @@
--- The proof of demand 3, in its order, then its instances and the code.
+-- The proof of demand 3, file by file in its order; then its instances, and the code.
+--   A  what holds of every system that a schedule reaches: nobody knows more starts of a head than it has had, each head's leader is
+--      before it or itself, its timeouts are above the period, its next chance is at most a period away once its wait is over
+--   B  one steady station at a time. A leader is late if it is L or after L by the counts known; a late leader gives way to L
+--   C  after M + 2 d ticks every leader is late, and L trusts itself
+--   D  from then on a message of L's reaches each follower by a deadline, which comes nearer with each tick that brings none
+--   E  so each follower is in one of three cases, and a tick takes it from case to case
+--   F  what a follower can still lose is a number that no tick raises, and that a tick in which it does not trust L lowers
+--   G  the ticks up to W + M + 3 d and a period, and after them the sum over the followers: the bound
+--   H  in a tick that ends undivided nobody but L sends
 pub mod A1-Sane
 pub mod A2-Reached
 pub mod A3-Reaching
