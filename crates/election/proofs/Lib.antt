@@ -1,27 +1,33 @@
 -- The theorems of the election, and what they rest on.
-pub mod Accepting
-pub mod Breaches
-pub mod Changes
-pub mod Computed
-pub mod Counts
-pub mod Delivery
-pub mod FirstOnly
-pub mod Follow
-pub mod Followed
-pub mod FromOffset
-pub mod GoingOn
-pub mod Heads
-pub mod Idle
-pub mod InitialSound
-pub mod KeepsSound
+-- What soundness says, of links and of systems
+pub mod Spaced
 pub mod Links
-pub mod NeverUnsound
-pub mod Opened
-pub mod Order
 pub mod Places
 pub mod Soundness
-pub mod Spaced
-pub mod StationTick
+pub mod InitialSound
+-- A tick: what the heads do keeps, step by step; it leaves a sound system
+pub mod Heads
 pub mod Steps
+pub mod Delivery
+pub mod StationTick
 pub mod TickSound
 pub mod Underway
+-- The paper's order of a tick, and ticks in which nothing is due
+pub mod Order
+pub mod Idle
+-- Commands keep soundness; 15 is never met
+pub mod Accepting
+pub mod Changes
+pub mod KeepsSound
+pub mod NeverUnsound
+-- A schedule, command by command: its end, its start counts, the bytes that matter, going on with it
+pub mod Follow
+pub mod Followed
+pub mod Counts
+pub mod FromOffset
+pub mod FirstOnly
+pub mod GoingOn
+-- The tables, computed
+pub mod Opened
+pub mod Computed
+pub mod Breaches

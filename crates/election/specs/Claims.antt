@@ -22,7 +22,7 @@ FreshSound = sound fresh ≡ true
 abbrev pub KeepsSound : Type 0
 KeepsSound = (s : System) (bytes : List ℕ) → sound s ≡ true → sound (command s bytes .system) ≡ true
 
--- a link never carries more than four messages
+-- a link never carries more messages than it has places
 abbrev pub LinkRoom : Type 0
 LinkRoom =
     (s : System) → sound s ≡ true → s .ready ≡ true → s .tick < lastTick

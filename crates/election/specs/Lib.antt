@@ -1,15 +1,19 @@
--- The election as definitions, and what is claimed of it.
-pub mod Breaches
-pub mod Claims
-pub mod Commands
+-- The election as definitions, in the paper's order, and what is claimed of it.
+-- One tick of the desk: the system, what its heads do, a tick; the same in the paper's order; ticks in which nothing is due
+pub mod System
 pub mod Heads
-pub mod History
+pub mod Tick
+pub mod Order
 pub mod Idle
+-- Commands of one byte, and what is turned down: a command, soundness, a schedule, the listing; going on with a schedule
+pub mod Sound
+pub mod Commands
+pub mod Schedule
 pub mod Listing
 pub mod Onward
-pub mod Order
+-- The accepted commands of a schedule, and the claims
+pub mod History
+pub mod Claims
+-- Tables that are computed: the rehearsals, and soundness breached clause by clause
 pub mod Rehearsals
-pub mod Schedule
-pub mod Sound
-pub mod System
-pub mod Tick
+pub mod Breaches

@@ -11,7 +11,7 @@ use Rattle.election.specs.declared.Link.{Link}
 use Rattle.election.specs.declared.Message.{Message}
 use Rattle.election.specs.declared.System.{System}
 
--- the most messages on a link
+-- the places of a link: the most messages on it
 abbrev pub places : ℕ
 places = 4
 
