@@ -419,22 +419,6 @@ loop9-holds c =
     let ch = timed (c .before .before .before .before .before .before) in
     (none-low _, c .before .before .before .before .before .before .before .before .before .before .loop8 .inv .1, ch .high, ch .wide, silent-sends _ _ _ _ (c .before .before .before .before .before .before .before .before .before .before .before .before .before .before .loop3 .inv .0) (ch .silent) p hp, getD-set-same (c .before .before .before .before .before .before .before .before .before .before .loop8 .busy) p true false (subst (λ (j : ℕ). p < j) (sym (ch .silent .long)) hp), λ σ₁ a. rw (row-start p) a)
 
-add-due-2 : tie.Need-add-due-2 Inv-loop2 μ-loop2 Inv-loop μ-loop Inv-loop6 μ-loop6 Inv-loop7 μ-loop7 Inv-loop5 μ-loop5 Inv-loop4 μ-loop4 Inv-loop9 μ-loop9 Inv-loop8 μ-loop8 Inv-loop3 μ-loop3
-add-due-2 c =
-    omega (arith, c .before .before .before .ticks-of .ensures .1, c .before .before .before .before .before .before .before .before .before .before .before .before .before .before .before .before .before .before .before .before .before .loop3 .inv .1, c .before .before .before .before .before .before .before .before .before .before .before .before .before .before .before .before .before .before .before .before .loop3-test .taken)
-
-add-t145 : tie.Need-add-t145 Inv-loop2 μ-loop2 Inv-loop μ-loop Inv-loop6 μ-loop6 Inv-loop7 μ-loop7 Inv-loop5 μ-loop5 Inv-loop4 μ-loop4 Inv-loop9 μ-loop9 Inv-loop8 μ-loop8 Inv-loop3 μ-loop3
-add-t145 c = place-fits (free-place c)
-
-mul-t146 : tie.Need-mul-t146 Inv-loop2 μ-loop2 Inv-loop μ-loop Inv-loop6 μ-loop6 Inv-loop7 μ-loop7 Inv-loop5 μ-loop5 Inv-loop4 μ-loop4 Inv-loop9 μ-loop9 Inv-loop8 μ-loop8 Inv-loop3 μ-loop3
-mul-t146 c = message-fits (free-place c)
-
-element-set-from-s-4 : tie.Need-element-set-from-s-4 Inv-loop2 μ-loop2 Inv-loop μ-loop Inv-loop6 μ-loop6 Inv-loop7 μ-loop7 Inv-loop5 μ-loop5 Inv-loop4 μ-loop4 Inv-loop9 μ-loop9 Inv-loop8 μ-loop8 Inv-loop3 μ-loop3
-element-set-from-s-4 c = place-low (free-place c)
-
-add-s-2 : tie.Need-add-s-2 Inv-loop2 μ-loop2 Inv-loop μ-loop Inv-loop6 μ-loop6 Inv-loop7 μ-loop7 Inv-loop5 μ-loop5 Inv-loop4 μ-loop4 Inv-loop9 μ-loop9 Inv-loop8 μ-loop8 Inv-loop3 μ-loop3
-add-s-2 c = used-more-fits _ _ (c .before .count2 .ensures) (free-place (c .before) .low)
-
 loop9-again : tie.Need-loop9-again Inv-loop2 μ-loop2 Inv-loop μ-loop Inv-loop6 μ-loop6 Inv-loop7 μ-loop7 Inv-loop5 μ-loop5 Inv-loop4 μ-loop4 Inv-loop9 μ-loop9 Inv-loop8 μ-loop8 Inv-loop3 μ-loop3
 loop9-again c =
     let n = c .before .before .before .before .before .before .before .before .before .before .before .before .before .before .before .before .before .before .before .before .before .before .before .args .t2 .n in
@@ -659,13 +643,13 @@ run-spec =
     (λ c κs. search needs)
     (λ c. link-low (way (c .before .before .before)))
     (λ c κs. search needs)
-    add-due-2
+    (λ c. omega (arith, c .before .before .before .ticks-of .ensures .1, c .before .before .before .before .before .before .before .before .before .before .before .before .before .before .before .before .before .before .before .before .before .loop3 .inv .1, c .before .before .before .before .before .before .before .before .before .before .before .before .before .before .before .before .before .before .before .before .loop3-test .taken))
     (λ c. places-fit (way (c .before .before .before .before .before)))
-    add-t145
-    mul-t146
-    element-set-from-s-4
+    (λ c. place-fits (free-place c))
+    (λ c. message-fits (free-place c))
+    (λ c. place-low (free-place c))
     (λ c. link-low (way (c .before .before .before .before .before)))
-    add-s-2
+    (λ c. used-more-fits _ _ (c .before .count2 .ensures) (free-place (c .before) .low))
     (λ c. link-low (way (c .before .before .before .before .before .before)))
     (λ c κs. c .before .before .before .before .before .before .before .loop9 .inv .1)
     (λ c. next-number-fits (way (c .before .before .before) .to))
