@@ -1,5 +1,3 @@
--- Commands of one byte, as the code decides on them.
-pub mod Bytes
-pub mod Decisions
+-- A turn of the owner, and what its operations give.
 pub mod Operations
 pub mod Turns

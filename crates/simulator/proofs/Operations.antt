@@ -20,7 +20,7 @@ use Rattle.layout.specs.Layout.{systemOf}
 use Rattle.layout.specs.declared.Layout.{Layout}
 use Rattle.simulator.specs.Gone.{Gone, gone, said, refusalOf}
 use Rattle.simulator.specs.declared.rules.Onward.{Onward}
-use Rattle.simulator.proofs.Bytes.{width-of}
+use Rattle.decision.proofs.Bytes.{width-of}
 
 -- turned down, the system is as it was
 pub turned-away : (s : System) (bytes : List ℕ) (number : ℕ) → command s bytes .refusal ≡ number → number ≢ 0 → record { refusal = number; length = 0; system = s } ≡ command s bytes

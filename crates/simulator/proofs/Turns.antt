@@ -32,13 +32,13 @@ use Rattle.layout.specs.declared.Layout.{Layout}
 use Rattle.layout.proofs.Stores.{Wide, withStations, withDelays, withUsed, Clearing, lost-read}
 use Rattle.listing.specs.Wrote.{Wrote}
 use Rattle.listing.proofs.Parts.{wrote-none, wrote-part, wrote-length}
-use Rattle.simulator.specs.Decided.{Sees, Taken, decided, meaning}
+use Rattle.decision.specs.Decided.{Sees, Taken, decided, meaning}
 use Rattle.simulator.specs.Gone.{Gone, leaving, gone, said}
 use Rattle.simulator.specs.declared.rules.Stop.the-variants.{Full, End, Refused}
-use Rattle.simulator.specs.declared.rules.decision.Decision.{Decision}
-use Rattle.simulator.specs.declared.rules.decision.Decision.the-variants as code
-use Rattle.simulator.proofs.Bytes.{not-known, report-read}
-use Rattle.simulator.proofs.Decisions.{decided-by, numbered, refused-number, taken-command, taken-width}
+use Rattle.decision.specs.declared.Decision.{Decision}
+use Rattle.decision.specs.declared.Decision.the-variants as code
+use Rattle.decision.proofs.Bytes.{not-known, report-read}
+use Rattle.decision.proofs.Decisions.{decided-by, numbered, refused-number, taken-command, taken-width}
 
 -- the command is a report
 abbrev pub isReport : Command → Bool

@@ -1,3 +1,2 @@
--- What the desk's code decides and answers, in the words of the definitions.
-pub mod Decided
+-- What going on with a schedule leaves, in the words of the definitions.
 pub mod Gone

@@ -5,11 +5,11 @@ ghost use Rattle.election.specs.Commands.{command, numberOf, said};
 ghost use Rattle.election.specs.Schedule.{schedule};
 ghost use Rattle.election.specs.Schedule.{said as saidSchedule};
 use crate::rules::Stop;
-use crate::rules::decision::Decision;
-use crate::rules::decision::decide;
-use crate::rules::decision::named;
 use crate::rules::go_on;
-use crate::widths::width;
+use decision::Decision;
+use decision::decide;
+use decision::named;
+use decision::widths::width;
 use election::Answer;
 use election::Commanded;
 use election::Ended;
@@ -22,7 +22,6 @@ use layout::rules::system_of;
 use soundness::sound;
 
 pub mod rules;
-mod widths;
 
 // A command that is turned down.
 fn refused(why: Refusal, s: System) -> Commanded

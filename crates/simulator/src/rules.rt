@@ -5,10 +5,10 @@ ghost use mathlib.Core.Bool.{true};
 ghost use Rattle.election.specs.Sound.{sound};
 ghost use Rattle.layout.specs.Layout.{systemOf};
 ghost use Rattle.simulator.specs.Gone.{gone, said};
-use crate::rules::decision::Decision;
-use crate::rules::decision::decide;
-use crate::rules::decision::named;
-use crate::widths::width;
+use decision::Decision;
+use decision::decide;
+use decision::named;
+use decision::widths::width;
 use election::PLACES;
 use election::Refusal;
 use layout::Layout;
@@ -19,8 +19,6 @@ use listing::rules::write_listing;
 use station::rules::crash;
 use station::rules::start;
 use ticks::rules::run;
-
-pub mod decision;
 
 // Where going on with a schedule stops: before a report that has no room left, at the schedule's end, or before a refused command.
 pub enum Stop {

@@ -1,4 +1,4 @@
--- The function fit::alive meets its contract.
+-- The function alive meets its contract.
 use borrow.Author.Needs.{needs}
 use Rattle.fit.specs.Fit.{alive}
 use Rattle.fit.proofs.alive.Statement.{statement}

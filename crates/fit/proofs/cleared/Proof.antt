@@ -1,4 +1,4 @@
--- The function fit::cleared meets its contract.
+-- The function cleared meets its contract.
 use borrow.Author.Needs.{needs}
 use Rattle.fit.specs.Fit.{cleared}
 use Rattle.fit.proofs.cleared.Statement.{statement}

@@ -1,4 +1,4 @@
--- The function fit::counts_in meets its contract.
+-- The function counts_in meets its contract.
 use mathlib.Core.Path.{_≡_, sym}
 use mathlib.Core.Bool.{true}
 use Prim.Native.Nat.{_-_, _≤_}

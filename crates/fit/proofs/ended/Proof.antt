@@ -1,4 +1,4 @@
--- The function fit::ended meets its contract.
+-- The function ended meets its contract.
 use borrow.Author.Needs.{needs}
 use Rattle.fit.specs.Fit.{ended}
 use Rattle.fit.proofs.ended.Statement.{statement}

@@ -1,4 +1,4 @@
--- The function fit::fit meets its contract.
+-- The function fit meets its contract.
 use borrow.Author.Needs.{needs}
 use Rattle.fit.proofs.Tests.{fit-up, fit-down}
 use Rattle.fit.proofs.fit.Statement.{statement}

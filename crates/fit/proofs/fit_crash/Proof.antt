@@ -1,4 +1,4 @@
--- The function fit::fit_crash meets its contract.
+-- The function fit_crash meets its contract.
 use borrow.Author.Needs.{needs}
 use Rattle.fit.specs.Fit.{fitCrash}
 use Rattle.fit.proofs.fit_crash.Statement.{statement}

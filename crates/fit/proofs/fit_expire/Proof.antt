@@ -1,4 +1,4 @@
--- The function fit::fit_expire meets its contract.
+-- The function fit_expire meets its contract.
 use borrow.Author.Needs.{needs}
 use Rattle.fit.specs.Fit.{fitExpire}
 use Rattle.fit.proofs.fit_expire.Statement.{statement}

@@ -1,4 +1,4 @@
--- The function fit::fit_hear meets its contract.
+-- The function fit_hear meets its contract.
 use borrow.Author.Needs.{needs}
 use Rattle.fit.specs.Fit.{fitHear}
 use Rattle.fit.proofs.fit_hear.Statement.{statement}

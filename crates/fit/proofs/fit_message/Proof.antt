@@ -1,4 +1,4 @@
--- The function fit::fit_message meets its contract.
+-- The function fit_message meets its contract.
 use borrow.Author.Needs.{needs}
 use Rattle.fit.specs.Fit.{fitMessage}
 use Rattle.fit.proofs.fit_message.Statement.{statement}

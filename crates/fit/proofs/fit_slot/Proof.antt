@@ -1,4 +1,4 @@
--- The function fit::fit_slot meets its contract.
+-- The function fit_slot meets its contract.
 use borrow.Author.Needs.{needs}
 use Rattle.fit.specs.Fit.{fitSlot}
 use Rattle.fit.proofs.fit_slot.Statement.{statement}

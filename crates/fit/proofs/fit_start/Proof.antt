@@ -1,4 +1,4 @@
--- The function fit::fit_start meets its contract.
+-- The function fit_start meets its contract.
 use borrow.Author.Needs.{needs}
 use Rattle.fit.specs.Fit.{fitStart}
 use Rattle.fit.proofs.fit_start.Statement.{statement}

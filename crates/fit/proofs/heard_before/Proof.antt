@@ -1,4 +1,4 @@
--- The function fit::heard_before meets its contract.
+-- The function heard_before meets its contract.
 use borrow.Author.Needs.{needs}
 use Rattle.fit.specs.Fit.{heardBefore}
 use Rattle.fit.proofs.heard_before.Statement.{statement}

@@ -1,4 +1,4 @@
--- The function fit::just_set meets its contract.
+-- The function just_set meets its contract.
 use borrow.Author.Needs.{needs}
 use Rattle.fit.specs.Fit.{justSet}
 use Rattle.fit.proofs.just_set.Statement.{statement}

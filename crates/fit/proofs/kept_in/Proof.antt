@@ -1,4 +1,4 @@
--- The function fit::kept_in meets its contract.
+-- The function kept_in meets its contract.
 use mathlib.Core.Path.{refl}
 use Rattle.fit.specs.Fit.{keptIn}
 use Rattle.fit.proofs.kept_in.Statement.{statement}

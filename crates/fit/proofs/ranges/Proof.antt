@@ -1,4 +1,4 @@
--- The function fit::ranges meets its contract.
+-- The function ranges meets its contract.
 use mathlib.Core.Path.{refl}
 use Rattle.fit.specs.Fit.{ranges}
 use Rattle.fit.proofs.ranges.Statement.{statement}

@@ -1,4 +1,4 @@
--- The function fit::slot_in meets its contract.
+-- The function slot_in meets its contract.
 use borrow.Author.Needs.{needs}
 use Rattle.fit.specs.Fit.{slotIn}
 use Rattle.fit.proofs.slot_in.Statement.{statement}

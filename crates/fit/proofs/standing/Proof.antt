@@ -1,4 +1,4 @@
--- The function fit::standing meets its contract.
+-- The function standing meets its contract.
 use borrow.Author.Needs.{needs}
 use Rattle.fit.specs.Fit.{standing}
 use Rattle.fit.proofs.standing.Statement.{statement}

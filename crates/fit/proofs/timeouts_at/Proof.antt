@@ -1,4 +1,4 @@
--- The function fit::timeouts_at meets its contract.
+-- The function timeouts_at meets its contract.
 use mathlib.Core.Path.{_≡_}
 use mathlib.Core.Bool.{cond}
 use Prim.Native.Nat.{_+_, _-_, _≤_}

@@ -1,4 +1,4 @@
--- The function fit::timer_in meets its contract.
+-- The function timer_in meets its contract.
 use borrow.Author.Tests.{eq-eqb, ne-eqb}
 use borrow.Author.Needs.{needs}
 use Rattle.fit.specs.Fit.{timerIn}

@@ -1,4 +1,4 @@
--- The function fit::unended meets its contract.
+-- The function unended meets its contract.
 use borrow.Author.Needs.{needs}
 use Rattle.fit.specs.Fit.{unended}
 use Rattle.fit.proofs.unended.Statement.{statement}

@@ -9,8 +9,8 @@ use Rattle.lists.proofs.Bools.{holds, fails}
 use Rattle.election.specs.Commands.{numberOf}
 use Rattle.election.specs.declared.System.{System}
 use Rattle.election.proofs.FromOffset.{command-size}
-use Rattle.simulator.proofs.Bytes.{unsound}
-use Rattle.simulator.proofs.Decisions.{decided-by, numbered, refused-number, accepted}
+use Rattle.decision.proofs.Bytes.{unsound}
+use Rattle.decision.proofs.Decisions.{decided-by, numbered, refused-number, accepted}
 use Rattle.simulator.proofs.Operations.{turned-away, inside, done}
 use Rattle.simulator.proofs.command.Statement.{statement}
 use Rattle.simulator.proofs.command.Tie as tie

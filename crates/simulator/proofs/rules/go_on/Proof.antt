@@ -19,8 +19,8 @@ use Rattle.layout.specs.declared.Layout.{Layout}
 use Rattle.layout.proofs.Stores.{Wide, Clearing, clearing-none, clearing-turn}
 use Rattle.listing.proofs.Parts.{room-part}
 use Rattle.listing.proofs.Room.{listing-room}
-use Rattle.simulator.specs.Decided.{Taken, decided, meaning}
-use Rattle.simulator.specs.declared.rules.decision.Decision.{Decision}
+use Rattle.decision.specs.Decided.{Taken, decided, meaning}
+use Rattle.decision.specs.declared.Decision.{Decision}
 use Rattle.simulator.proofs.Turns.{decided-of, station-stored, delay-stored, messages-stored, Going, going-first, same-size, ends, turned-down, taken, stops-full, inside-after, further, listed}
 use Rattle.simulator.proofs.rules.go_on.Statement.{statement}
 use Rattle.simulator.proofs.rules.go_on.Tie as tie

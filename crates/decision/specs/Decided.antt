@@ -1,0 +1,40 @@
+-- What is decided of a command, as the definitions have it.
+use mathlib.Core.Path.{_≡_}
+use mathlib.Core.List.{List}
+use mathlib.Core.Bool.{Bool, cond}
+use Prim.Native.Nat.{ℕ, _≤_}
+use lib.ListN.{getD}
+use lib.Dec.{eqb}
+use Rattle.station.specs.declared.Station.{Station}
+use Rattle.election.specs.Commands.{Command, SetUp, Start, Crash, Link, Run, Lose, Report, numberOf}
+use Rattle.election.specs.System.{station}
+use Rattle.election.specs.declared.System.{System}
+use Rattle.decision.specs.declared.Decision.{Decision}
+use Rattle.decision.specs.declared.Decision.the-variants as code
+
+-- turned down with a number, or taken
+pub data Decided : Type 0 where
+  Turned : ℕ → Decided
+  Taken : Command → Decided
+
+-- by the number of its refusal, 0 for none
+abbrev pub decided : ℕ → Command → Decided
+decided refusal c = cond (eqb refusal 0) (Taken c) (Turned refusal)
+
+-- what the code's decision says
+abbrev pub meaning : Decision → Decided
+meaning (code.Refused why) = Turned (numberOf why)
+meaning (code.SetUp n period) = Taken (SetUp n period)
+meaning (code.Start p) = Taken (Start p)
+meaning (code.Crash p) = Taken (Crash p)
+meaning (code.Link p q d) = Taken (Link p q d)
+meaning (code.Run t) = Taken (Run t)
+meaning (code.Lose p q) = Taken (Lose p q)
+meaning code.Report = Taken Report
+
+-- the values that a decision needs are those of a system: the station is the one that the first operand names
+pub record Sees (s : System) (ready : Bool) (n tick : ℕ) (x : Station) (bytes : List ℕ) : Type 0 where
+  pub is-ready : s .ready ≡ ready
+  pub is-n : s .n ≡ n
+  pub is-tick : s .tick ≡ tick
+  pub is-named : getD bytes 1 0 ≤ 8 → station s (getD bytes 1 0) ≡ x

@@ -1,0 +1,210 @@
+// What is decided of a command before anything is done: turned down for the first test that it fails, or taken. No system is needed for
+// it, only a few of its values, and the station that the command names.
+ghost use mathlib.Core.Path.{_≡_};
+ghost use mathlib.Core.Bool.{true, _&&_};
+ghost use Prim.Native.Nat.{_+_, _*_, _-_, _<_, _≤_};
+ghost use lib.ListN.{getD};
+ghost use Rattle.lists.specs.First.{firstFailed};
+ghost use Rattle.fit.specs.Fit.{within};
+ghost use Rattle.election.specs.Commands.{SetUp, Start, Crash, Link, Run, Lose, Report, decode, ruling, tests};
+ghost use Rattle.election.specs.Sound.{sound};
+ghost use Rattle.election.specs.System.{station};
+ghost use Rattle.election.specs.declared.System.{System};
+ghost use Rattle.decision.specs.Decided.{Sees, decided, meaning};
+use crate::widths::width;
+use election::Refusal;
+use fit::LONGEST_DELAY;
+use station::Station;
+
+pub mod widths;
+
+// A command that is turned down, or taken with its operands.
+pub enum Decision {
+    Refused(Refusal),
+    SetUp { n: u8, period: u8 },
+    Start(u8),
+    Crash(u8),
+    Link { from: u8, to: u8, delay: u8 },
+    Run(u32),
+    Lose { from: u8, to: u8 },
+    Report,
+}
+
+// Whether a number is one of the stations 1 to n.
+fn is_station(n: u8, p: u8) -> bool
+    ensures { λ r. ⌜ r ≡ within 1 p n ⌝ }
+{
+    match p {
+        0 => false,
+        1..=255 => p <= n,
+    }
+}
+
+// Whether both numbers are stations of the system.
+fn are_stations(n: u8, p: u8, q: u8) -> bool
+    ensures { λ r. ⌜ r ≡ (within 1 p n && within 1 q n) ⌝ }
+{
+    is_station(n, p) & is_station(n, q)
+}
+
+// Set up, with operands in range.
+fn set_up(ready: bool, n: u8, period: u8) -> Decision
+    ensures { λ r. ⌜ ((s : System) → s .ready ≡ ready → meaning r ≡ decided (firstFailed (tests s (SetUp n period))) (SetUp n period)) ⌝ }
+{
+    if ready {
+        return Decision::Refused(Refusal::SetUpTwice);
+    }
+    match n {
+        2..=8 => match period {
+            16..=255 => Decision::SetUp { n, period },
+            _ => Decision::Refused(Refusal::PeriodRange),
+        },
+        _ => Decision::Refused(Refusal::StationsRange),
+    }
+}
+
+// A station starts, if it is down and not worn out.
+fn start(ready: bool, n: u8, x: Station, p: u8) -> Decision
+    ensures { λ r. ⌜ ((s : System) → s .ready ≡ ready → s .n ≡ n → (ready ≡ true → p ≤ n → station s p ≡ x) → meaning r ≡ decided (firstFailed (tests s (Start p))) (Start p)) ⌝ }
+{
+    if !ready {
+        return Decision::Refused(Refusal::NotSetUp);
+    }
+    if !is_station(n, p) {
+        return Decision::Refused(Refusal::StationRange);
+    }
+    if x.up {
+        return Decision::Refused(Refusal::StationUp);
+    }
+    match x.incarnation {
+        0..=4094 => Decision::Start(p),
+        _ => Decision::Refused(Refusal::WornOut),
+    }
+}
+
+// A station crashes, if it is up.
+fn crash(ready: bool, n: u8, x: Station, p: u8) -> Decision
+    ensures { λ r. ⌜ ((s : System) → s .ready ≡ ready → s .n ≡ n → (ready ≡ true → p ≤ n → station s p ≡ x) → meaning r ≡ decided (firstFailed (tests s (Crash p))) (Crash p)) ⌝ }
+{
+    if !ready {
+        return Decision::Refused(Refusal::NotSetUp);
+    }
+    if !is_station(n, p) {
+        return Decision::Refused(Refusal::StationRange);
+    }
+    if !x.up {
+        return Decision::Refused(Refusal::StationDown);
+    }
+    Decision::Crash(p)
+}
+
+// A link gets a delay of at most the longest.
+fn link(ready: bool, n: u8, from: u8, to: u8, delay: u8) -> Decision
+    ensures { λ r. ⌜ ((s : System) → s .ready ≡ ready → s .n ≡ n → meaning r ≡ decided (firstFailed (tests s (Link from to delay))) (Link from to delay)) ⌝ }
+{
+    if !ready {
+        return Decision::Refused(Refusal::NotSetUp);
+    }
+    if !are_stations(n, from, to) {
+        return Decision::Refused(Refusal::StationRange);
+    }
+    if from == to {
+        return Decision::Refused(Refusal::SameStation);
+    }
+    match delay {
+        0..=LONGEST_DELAY => Decision::Link { from, to, delay },
+        _ => Decision::Refused(Refusal::DelayRange),
+    }
+}
+
+// The tick that a run leads to.
+fn sum(tick: u32, t: u32) -> u64
+    ensures { λ r. ⌜ r ≡ tick + t ⌝ }
+{
+    tick as u64 + t as u64
+}
+
+// A run of at least one tick, not past the last.
+fn run(ready: bool, tick: u32, t: u32) -> Decision
+    ensures { λ r. ⌜ ((s : System) → s .ready ≡ ready → s .tick ≡ tick → meaning r ≡ decided (firstFailed (tests s (Run t))) (Run t)) ⌝ }
+{
+    if !ready {
+        return Decision::Refused(Refusal::NotSetUp);
+    }
+    if t == 0 {
+        return Decision::Refused(Refusal::NoTicks);
+    }
+    match sum(tick, t) {
+        0..=1000000 => Decision::Run(t),
+        _ => Decision::Refused(Refusal::PastLastTick),
+    }
+}
+
+// The messages under way on a link vanish.
+fn lose(ready: bool, n: u8, from: u8, to: u8) -> Decision
+    ensures { λ r. ⌜ ((s : System) → s .ready ≡ ready → s .n ≡ n → meaning r ≡ decided (firstFailed (tests s (Lose from to))) (Lose from to)) ⌝ }
+{
+    if !ready {
+        return Decision::Refused(Refusal::NotSetUp);
+    }
+    if !are_stations(n, from, to) {
+        return Decision::Refused(Refusal::StationRange);
+    }
+    if from == to {
+        return Decision::Refused(Refusal::SameStation);
+    }
+    Decision::Lose { from, to }
+}
+
+// A report, once the system is set up.
+fn report(ready: bool) -> Decision
+    ensures { λ r. ⌜ ((s : System) → s .ready ≡ ready → meaning r ≡ decided (firstFailed (tests s Report)) Report) ⌝ }
+{
+    if !ready {
+        return Decision::Refused(Refusal::NotSetUp);
+    }
+    Decision::Report
+}
+
+// The number of two bytes, low byte first.
+fn word(low: u8, high: u8) -> u32
+    ensures { λ r. ⌜ r ≡ low + 256 * high ⌝ }
+{
+    low as u32 + 256 * high as u32
+}
+
+// Where the station stands that a command names, if it names one: its first operand less one.
+pub fn named(bytes: &[u8]) -> usize
+    ensures { λ r. ⌜ (r < 8) × (getD (now (bytes .entry)) 1 0 ≤ 8 → getD (now (bytes .entry)) 1 0 - 1 ≡ r) ⌝ }
+{
+    if bytes.len() < 2 {
+        return 0;
+    }
+    match bytes[1] {
+        1..=8 => (bytes[1] - 1) as usize,
+        _ => 0,
+    }
+}
+
+// Decides on the first command of the bytes, for a sound system of which the values are, and the station that the command names.
+pub fn decide(ready: bool, n: u8, tick: u32, x: Station, bytes: &[u8]) -> Decision
+    ensures { λ r. ⌜ ((s : System) → sound s ≡ true → Sees s ready n tick x (now (bytes .entry)) → meaning r ≡ decided (ruling s (now (bytes .entry))) (decode (now (bytes .entry)))) ⌝ }
+{
+    if bytes.len() == 0 {
+        return Decision::Refused(Refusal::MissingOperand);
+    }
+    let b = bytes[0];
+    if bytes.len() <= width(b) {
+        return Decision::Refused(Refusal::MissingOperand);
+    }
+    match b {
+        1 => set_up(ready, bytes[1], bytes[2]),
+        2 => start(ready, n, x, bytes[1]),
+        3 => crash(ready, n, x, bytes[1]),
+        4 => link(ready, n, bytes[1], bytes[2], bytes[3]),
+        5 => run(ready, tick, word(bytes[1], bytes[2])),
+        6 => lose(ready, n, bytes[1], bytes[2]),
+        7 => report(ready),
+        _ => Decision::Refused(Refusal::UnknownCommand),
+    }
+}
