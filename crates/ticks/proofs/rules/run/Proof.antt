@@ -475,8 +475,8 @@ quiet-station-requires : tie.Need-quiet-station-requires Inv-loop2 μ-loop2 Inv-
 quiet-station-requires c κs =
     let i8 = c .before .before .before .before .before .before .loop8 .inv in
     ⊎-elim
-    (λ w. rw (w .8) (⊎-elim (λ v. rw (v .9) (v .3 .inv .1)) (λ v. rw (v .3) (i8 .1)) (w .3 .came)))
-    (λ w. rw (w .3) (i8 .1))
+    (λ w. at-least _ _ _ (w .8) (⊎-elim (λ v. at-least _ _ _ (v .9) (v .3 .inv .1)) (λ v. at-least _ _ _ (v .3) (i8 .1)) (w .3 .came)))
+    (λ w. at-least _ _ _ (w .3) (i8 .1))
     (c .before .if7 .came)
 
 loop8-again : tie.Need-loop8-again Inv-loop2 μ-loop2 Inv-loop μ-loop Inv-loop6 μ-loop6 Inv-loop7 μ-loop7 Inv-loop5 μ-loop5 Inv-loop4 μ-loop4 Inv-loop9 μ-loop9 Inv-loop8 μ-loop8 Inv-loop3 μ-loop3
