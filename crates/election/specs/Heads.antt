@@ -1,4 +1,4 @@
--- What the heads of a system do in a tick: four rules, which the tick goes by. Its laws are said of any rules.
+-- What the heads of a system do in a tick: the four rules that the tick goes by.
 use mathlib.Core.Bool.{Bool}
 use Prim.Native.Nat.{ℕ}
 use Rattle.station.specs.Rules.{heard, expired, slotted, sends}
@@ -6,25 +6,26 @@ use Rattle.station.specs.declared.Station.{Station}
 use Rattle.election.specs.declared.Message.{Message}
 use Rattle.election.specs.declared.System.{System}
 
--- how a station me hears a message of q's in the tick now
+-- how station me, as it is, hears a message of q's in the tick now
 abbrev pub Hearing : Type 0
 Hearing = ℕ → ℕ → Message → ℕ → Station → Station
 
--- by the counts that the message brings
+-- hearing by the counts that the message brings
 abbrev pub byCounts : Hearing
 byCounts me q m now x = heard me q (m .counts) now x
 
+-- (a) hearing
 abbrev pub hearing : System → Hearing
 hearing s = byCounts
 
--- the end of its timer
+-- (b) the end of a timer
 abbrev pub expiring : System → ℕ → Station → Station
 expiring s me x = expired me x
 
--- its send chance in the tick now
+-- (c) a send chance in the tick now
 abbrev pub slotting : System → ℕ → Station → Station
 slotting s now x = slotted (s .period) now x
 
--- whether it sends LEADER at its chance
+-- and whether LEADER is sent at it
 abbrev pub announces : System → ℕ → Station → Bool
 announces s me x = sends me x

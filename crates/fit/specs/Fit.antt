@@ -1,4 +1,4 @@
--- What a sound system can hand to a station operation (readings 3 and 4): the clauses of soundness about one station.
+-- What a sound system can hand to a station operation: the clauses of soundness about one station, and what comes up in a tick.
 use mathlib.Core.List.{List}
 use mathlib.Core.Bool.{Bool, cond, not, _&&_, _||_}
 use Prim.Native.Nat.{ℕ, _+_, _-_, min}
@@ -11,13 +11,15 @@ use Rattle.station.specs.Order.{entry, precedes}
 use Rattle.station.specs.Rules.{other}
 use Rattle.station.specs.declared.Station.{Station}
 
--- the longest delay of a link; so two messages of one sender that are due in one tick lie less than that apart
+-- the longest delay of a link
 abbrev pub longestDelay : ℕ
 longestDelay = 64
 
+-- the longest that two messages of one sender can lie apart and be due in one tick
 abbrev pub flight : ℕ
 flight = longestDelay - 1
 
+-- x is a number from low to high
 abbrev pub within : ℕ → ℕ → ℕ → Bool
 within low x high = leb low x && leb x high
 

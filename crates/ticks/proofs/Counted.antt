@@ -1,4 +1,4 @@
--- What a station's sent count is added to, and by, is small.
+-- A sent count, and what is added to it, are small enough for their sum.
 use mathlib.Core.Path.{subst, sym}
 use Prim.Native.Nat.{ℕ, _+_, _<_, _≤_}
 use native.Mathlib.Omega.{arith}

@@ -7,6 +7,13 @@ use mir.Val.{Fits}
 use Rattle.election.specs.System.{places}
 use Rattle.station.specs.Limits.{lastTick}
 
+-- the bytes that a station and a message take in memory
+abbrev stationBytes : ℕ
+stationBytes = 68
+
+abbrev messageBytes : ℕ
+messageBytes = 24
+
 -- a station, from 0
 pub record Number (p : ℕ) : Type 0 where
   pub low : p < 8
@@ -47,7 +54,7 @@ module _ {p : ℕ} (a : Number p) where
   pub row-fits : Fits w64 (8 * p)
   row-fits = record { fits = omega (arith, a .low) }
 
-  pub station-fits : Fits w64 (p * 68)
+  pub station-fits : Fits w64 (p * stationBytes)
   station-fits = record { fits = omega (arith, a .low) }
 
   pub sent-fits : Fits w64 (p * 4)
@@ -70,7 +77,7 @@ module _ {q p i : ℕ} (a : Place q p i) where
   pub place-fits : Fits w64 (places * (8 * q + p) + i)
   place-fits = record { fits = omega (arith, place-low) }
 
-  pub message-fits : Fits w64 ((places * (8 * q + p) + i) * 24)
+  pub message-fits : Fits w64 ((places * (8 * q + p) + i) * messageBytes)
   message-fits = record { fits = omega (arith, place-low) }
 
   pub next-place-fits : Fits w64 (i + 1)
