@@ -49,6 +49,7 @@ sent-all P s p q f =
     cond-elim (All P) (sending s p && not (eqb (delay s p q) 0))
     (λ e. let (a, b) = both (sending s p) (not (eqb (delay s p q) 0)) e in (f a (eqb-false _ _ (not-true _ b)), tt)) (λ e. tt)
 
+-- where nothing is due, all stays
 pub later-none : (now : ℕ) (ms : List Message) → All (λ (m : Message). m .due ≢ now) ms → later now ms ≡ ms
 unfolding later
 later-none now [] h = refl

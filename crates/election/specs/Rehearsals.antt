@@ -7,7 +7,7 @@ use lib.ListN.{replicate}
 use Rattle.station.specs.Order.{entry}
 use Rattle.election.specs.Listing.{output}
 use Rattle.election.specs.Schedule.{End, schedule}
-use Rattle.election.specs.System.{station, sentBy, places}
+use Rattle.election.specs.System.{station, sentBy}
 use Rattle.election.specs.declared.System.{System}
 
 -- a schedule's bytes, what is looked at, and what must be seen
@@ -133,7 +133,7 @@ untouched ready n period leaders delays =
           leaders;
       sent = replicate 8 0;
       delays = delays;
-      links = replicate 64 (record { used = 0; messages = replicate places (record { sent = 0; due = 0; counts = replicate 8 0 }) });
+      links = replicate 64 (record { used = 0; messages = replicate 4 (record { sent = 0; due = 0; counts = replicate 8 0 }) });
     }
 
 -- the empty schedule leaves the fresh system, all zero

@@ -35,7 +35,7 @@ expiredNow expire now x = cond (eqb (x .timer) now) (expire x) x
 unfoldable pub slottedNow : (Station → Station) → ℕ → Station → Station
 slottedNow slot now x = cond (eqb (x .slot) now) (slot x) x
 
--- what station p hears in (a)
+-- station p, as it is, after (a)
 abbrev pub heardBy : System → ℕ → Station → Station
 heardBy s p x = heardAll (hearing s) (s .n) p (next s) (λ q. underway s q p) x
 

@@ -12,9 +12,10 @@ use station::rules::other;
 use station::rules::precedes;
 use station::rules::timeout_of;
 
-// The longest delay of a link, and how far two messages of one sender can lie apart and be due in one tick.
+// The longest delay of a link.
 pub const LONGEST_DELAY: u8 = 64;
 
+// The longest that two messages of one sender can lie apart and be due in one tick.
 const FLIGHT: u32 = LONGEST_DELAY as u32 - 1;
 
 // The same number, as a u64.
