@@ -1,4 +1,4 @@
--- Whatever fits is handed to the operation by some sound system.
+-- Whatever fits is handed to the operation by some sound system of full tables.
 use mathlib.Core.Path.{_≡_, refl, sym, ap, _∙_}
 use mathlib.Core.Logic.{_⊎_, _≢_}
 use mathlib.Core.Logic._⊎_.{inl, inr}
@@ -17,7 +17,7 @@ use Rattle.fit.proofs.Between.{start-of, crash-of}
 use Rattle.fit.proofs.Handed.{JustSet, InTick, Before, Hearing, hearing-of, Expiring, expiring-of, Unended, Ended, Slotting, slotting-of}
 use Rattle.fit.proofs.Keeps.{leader-timeout, set-other}
 use Rattle.fit.proofs.Tests.{Counts, Timer, Standing, of-counts, of-fit}
-use Rattle.handing.specs.Handed.{Finds, Hears, Expires, Slots, Eight}
+use Rattle.handing.specs.Handed.{Finds, Hears, Expires, Slots, Eight, ByFull}
 use Rattle.election.specs.Heads.{byCounts}
 use Rattle.election.specs.System.{station, underway, isLink}
 use Rattle.election.specs.Tick.{heardLink, heardAll, expiredNow, settled}
@@ -29,13 +29,13 @@ use Rattle.handing.proofs.Earlier.{earlier-fits, leader-heard, earlier,
 use Rattle.election.proofs.Links.{zeros-in}
 use Rattle.election.proofs.Places.{In, is-link}
 use Rattle.election.proofs.Steps.{heard-none, settled-up}
-use Rattle.handing.proofs.Witness.{around, around-station, around-underway, around-finds, around-runs, inside-eight}
+use Rattle.handing.proofs.Witness.{around, around-station, around-underway, around-full, around-finds, around-runs, inside-eight}
 
-pub start-handed : (me n period tick : ℕ) (x : Station) → fitStart me n period tick x ≡ true → Finds me n period tick x
+pub start-handed : (me n period tick : ℕ) (x : Station) → fitStart me n period tick x ≡ true → ByFull (Finds me n period tick x) (λ h. h .system)
 start-handed me n period tick x e = let (h, f) = start-of me n period tick x e in around-finds me n period tick x h f
 
-pub crash-handed : (me n period tick : ℕ) (x : Station) → fitCrash me n period tick x ≡ true → Finds me n period tick x × (x .up ≡ true)
-crash-handed me n period tick x e = let (f, u) = crash-of me n period tick x e in (start-handed me n period tick x f, u)
+pub crash-handed : (me n period tick : ℕ) (x : Station) → fitCrash me n period tick x ≡ true → ByFull (Finds me n period tick x × (x .up ≡ true)) (λ h. h .0 .system)
+crash-handed me n period tick x e = let (f, u) = crash-of me n period tick x e in let (h, full) = start-handed me n period tick x f in ((h, u), full)
 
 -- a message that is due now, sent some ticks before
 abbrev dueNow : ℕ → ℕ → List ℕ → Message
@@ -85,15 +85,20 @@ leader-mail me n period now x v st j =
     (carries-one n period (now - 1) o (due-now n period now (now - 1) (replicate 8 0) (v .tick-low) (omega arith) (omega (arith, v .tick-low)) (zeros-in n)))
     (no-mail me n period (now - 1))
 
-pub expire-handed : (me n period now : ℕ) (x : Station) → fitExpire me n period now x ≡ true → Expires me n period now x
+pub expire-handed : (me n period now : ℕ) (x : Station) → fitExpire me n period now x ≡ true → ByFull (Expires me n period now x) (λ h. h .system)
 expire-handed me n period now x e =
-    let d : Expiring me n period now x = expiring-of me n period now x e in
-    record {
-      system = around me n period (now - 1) x noMail;
-      runs = around-runs me n period now x noMail (d .values .tick-low) (d .values .tick-high) (of-fit me n period (now - 1) x (d .values .given) (d .kept) (d .stands) (d .timer)) (d .stands .living .up) (no-mail me n period (now - 1));
-      is-station = quiet me n period now (d .values) x;
-      is-due = d .now;
-    }
+    let d : Expiring me n period now x = expiring-of me n period now x e in (
+      record {
+        system = around me n period (now - 1) x noMail;
+        runs = around-runs me n period now x noMail (d .values .tick-low) (d .values .tick-high) (of-fit me n period (now - 1) x (d .values .given) (d .kept) (d .stands) (d .timer)) (d .stands .living .up) (no-mail me n period (now - 1));
+        is-station = quiet me n period now (d .values) x;
+        is-due = d .now;
+      },
+      around-full me n period (now - 1) x noMail (λ p. omega arith),
+    )
+
+abbrev FullHears : (me n period now q : ℕ) (v : List ℕ) (x : Station) → Type 0
+FullHears me n period now q v x = ByFull (Hears me n period now q v x) (λ h. h .system)
 
 module _ (me n period now q : ℕ) (v : List ℕ) (x : Station) (h : Hearing me n period now q v x) where
   abbrev youngest : Message
@@ -110,25 +115,27 @@ module _ (me n period now q : ℕ) (v : List ℕ) (x : Station) (h : Hearing me 
   heardLower y mail z = each (q - 1) (λ k. heardLink byCounts me (k + 1) now (underway (around me n period (now - 1) y mail) (k + 1) me)) z
 
   -- handed by the system around an earlier station
-  handed-by : (y : Station) (mail : ℕ → List Message) (older : List Message) → Inbox me n period (now - 1) mail → fit me n period (now - 1) y ≡ true → y .up ≡ true → mail q ≡ older ++ (youngest ∷ []) → heardLink byCounts me q now older (heardLower y mail y) ≡ x → Hears me n period now q v x
-  handed-by y mail older m f u e s =
-      record {
-        system = around me n period (now - 1) y mail;
-        runs = around-runs me n period now y mail (h .values .tick-low) (h .values .tick-high) f u m;
-        sender-low = h .message .low;
-        sender-high = h .message .high;
-        other = h .message .other;
-        older = older;
-        message = youngest;
-        younger = [];
-        is-mail = around-underway me n period (now - 1) y mail q (record { low = h .message .low; high = omega (arith, h .message .high, h .values .given .n-high) }) (hm me n period now (h .values)) (m .carried q .few) ∙ e;
-        is-due = refl;
-        is-counts = refl;
-        is-station = ap (λ z. heardLink byCounts me q now older (heardLower y mail z)) (around-station me n period (now - 1) y mail (hm me n period now (h .values))) ∙ s;
-      }
+  handed-by : (y : Station) (mail : ℕ → List Message) (older : List Message) → Inbox me n period (now - 1) mail → fit me n period (now - 1) y ≡ true → y .up ≡ true → mail q ≡ older ++ (youngest ∷ []) → heardLink byCounts me q now older (heardLower y mail y) ≡ x → FullHears me n period now q v x
+  handed-by y mail older m f u e s = (
+    record {
+      system = around me n period (now - 1) y mail;
+      runs = around-runs me n period now y mail (h .values .tick-low) (h .values .tick-high) f u m;
+      sender-low = h .message .low;
+      sender-high = h .message .high;
+      other = h .message .other;
+      older = older;
+      message = youngest;
+      younger = [];
+      is-mail = around-underway me n period (now - 1) y mail q (record { low = h .message .low; high = omega (arith, h .message .high, h .values .given .n-high) }) (hm me n period now (h .values)) (m .carried q .few) ∙ e;
+      is-due = refl;
+      is-counts = refl;
+      is-station = ap (λ z. heardLink byCounts me q now older (heardLower y mail z)) (around-station me n period (now - 1) y mail (hm me n period now (h .values))) ∙ s;
+    },
+    around-full me n period (now - 1) y mail (λ p. m .carried p .few),
+  )
 
   -- where nothing was heard before
-  hears-first : Timer me (now - 1) x → Hears me n period now q v x
+  hears-first : Timer me (now - 1) x → FullHears me n period now q v x
   hears-first t =
       let mail : ℕ → List Message = only q (youngest ∷ []) in
       let m : Inbox me n period (now - 1) mail = also-mail me n period (now - 1) q (youngest ∷ []) noMail from-q (carries-one n period (now - 1) youngest youngest-due) (no-mail me n period (now - 1)) in
@@ -144,7 +151,7 @@ module _ (me n period now q : ℕ) (v : List ℕ) (x : Station) (h : Hearing me 
     earlierFits = earlier-fits me n period now x (h .values .given) (h .stands) (h .kept)
 
     -- where the leader is a lower sender
-    hears-after-lower : x .leader < q → Hears me n period now q v x
+    hears-after-lower : x .leader < q → FullHears me n period now q v x
     hears-after-lower b =
         let y : Station = trusting me 0 x in
         let o : Message = dueNow now (now - 1) (replicate 8 0) in
@@ -161,7 +168,7 @@ module _ (me n period now q : ℕ) (v : List ℕ) (x : Station) (h : Hearing me 
         ∙ leader-heard me n period now x (h .values .given) (h .stands) j (l .counts))
 
     -- where it is q, with an older message
-    hears-after-own : x .leader ≡ q → period ≤ min (now - 1) flight → Hears me n period now q v x
+    hears-after-own : x .leader ≡ q → period ≤ min (now - 1) flight → FullHears me n period now q v x
     hears-after-own e b =
         let y : Station = trusting me 0 x in
         let o : Message = dueNow now (now - 1 - period) (replicate 8 0) in
@@ -176,31 +183,36 @@ module _ (me n period now q : ℕ) (v : List ℕ) (x : Station) (h : Hearing me 
         ∙ ap (λ p. heard me p (replicate 8 0) now y) (sym e)
         ∙ leader-heard me n period now x (h .values .given) (h .stands) j (l .counts))
 
-pub hear-handed : (me n period now q : ℕ) (v : List ℕ) (x : Station) → Eight x → fitHear me n period now q v x ≡ true → Hears me n period now q v x
+pub hear-handed : (me n period now q : ℕ) (v : List ℕ) (x : Station) → Eight x → fitHear me n period now q v x ≡ true → FullHears me n period now q v x
 hear-handed me n period now q v x l e = let h : Hearing me n period now q v x = hearing-of me n period now q v x e in go h (h .timer)
   where
-    go : Hearing me n period now q v x → Timer me (now - 1) x ⊎ (JustSet me now x × Before period now q x) → Hears me n period now q v x
+    go : Hearing me n period now q v x → Timer me (now - 1) x ⊎ (JustSet me now x × Before period now q x) → FullHears me n period now q v x
     go h (inl t) = hears-first me n period now q v x h t
     go h (inr (j, inl b)) = hears-after-lower me n period now q v x h l j b
     go h (inr (j, inr b)) = hears-after-own me n period now q v x h l j (b .0) (b .1)
 
+abbrev FullSlots : (me n period now : ℕ) (x : Station) → Type 0
+FullSlots me n period now x = ByFull (Slots me n period now x) (λ h. h .system)
+
 module _ (me n period now : ℕ) (x : Station) (d : Slotting me n period now x) where
   -- by the system around an earlier station
-  slots-by : (y : Station) (mail : ℕ → List Message) → Inbox me n period (now - 1) mail → fit me n period (now - 1) y ≡ true → y .up ≡ true → settled (around me n period (now - 1) y mail) me ≡ x → Slots me n period now x
-  slots-by y mail m f u s =
-      record {
-        system = around me n period (now - 1) y mail;
-        runs = around-runs me n period now y mail (d .values .tick-low) (d .values .tick-high) f u m;
-        is-station = s;
-        is-due = d .now;
-      }
+  slots-by : (y : Station) (mail : ℕ → List Message) → Inbox me n period (now - 1) mail → fit me n period (now - 1) y ≡ true → y .up ≡ true → settled (around me n period (now - 1) y mail) me ≡ x → FullSlots me n period now x
+  slots-by y mail m f u s = (
+    record {
+      system = around me n period (now - 1) y mail;
+      runs = around-runs me n period now y mail (d .values .tick-low) (d .values .tick-high) f u m;
+      is-station = s;
+      is-due = d .now;
+    },
+    around-full me n period (now - 1) y mail (λ p. m .carried p .few),
+  )
 
   module _ (u : Unended me n period now x) where
     stands : Standing me n period (now - 1) x
     stands = record { living = d .living; timeouts = u .timeouts; slot-low = omega (arith, d .now, d .values .tick-low); slot-high = omega (arith, d .now, d .values .given .period-low) }
 
     -- nothing was heard, and the timer does not end
-    slots-quiet : Timer me (now - 1) x → x .timer ≢ now → Slots me n period now x
+    slots-quiet : Timer me (now - 1) x → x .timer ≢ now → FullSlots me n period now x
     slots-quiet t ne =
         slots-by x noMail (no-mail me n period (now - 1))
         (of-fit me n period (now - 1) x (d .values .given) (d .kept) stands t)
@@ -208,7 +220,7 @@ module _ (me n period now : ℕ) (x : Station) (d : Slotting me n period now x) 
         (settled-now me n period now (d .values) x x noMail (d .living .up) (quiet me n period now (d .values) x) ∙ timer-runs (expired me) now x ne)
 
     -- the leader was heard
-    slots-heard : Eight x → JustSet me now x → Slots me n period now x
+    slots-heard : Eight x → JustSet me now x → FullSlots me n period now x
     slots-heard l j =
         let y : Station = trusting me 0 x in
         let o : Message = dueNow now (now - 1) (replicate 8 0) in
@@ -228,7 +240,7 @@ module _ (me n period now : ℕ) (x : Station) (d : Slotting me n period now x) 
         ∙ timer-runs (expired me) now x (λ e. omega (arith, j .ends, t .0, d .values .given .period-low)))
 
   -- the timer ended
-  slots-ended : Eight x → Ended me n period now x → Slots me n period now x
+  slots-ended : Eight x → Ended me n period now x → FullSlots me n period now x
   slots-ended l u =
       let y : Station = earlier me n period now x (d .values) (d .living) (d .now) u (l .timeouts) in
       slots-by y noMail (no-mail me n period (now - 1))
@@ -238,13 +250,13 @@ module _ (me n period now : ℕ) (x : Station) (d : Slotting me n period now x) 
       ∙ timer-ends (expired me) now y refl
       ∙ leader-expired me n period now x (d .values) (d .living) (d .now) u (l .timeouts))
 
-pub slot-handed : (me n period now : ℕ) (x : Station) → Eight x → fitSlot me n period now x ≡ true → Slots me n period now x
+pub slot-handed : (me n period now : ℕ) (x : Station) → Eight x → fitSlot me n period now x ≡ true → FullSlots me n period now x
 slot-handed me n period now x l e = let d : Slotting me n period now x = slotting-of me n period now x e in go d (d .timer)
   where
-    go : Slotting me n period now x → Unended me n period now x ⊎ Ended me n period now x → Slots me n period now x
+    go : Slotting me n period now x → Unended me n period now x ⊎ Ended me n period now x → FullSlots me n period now x
     go d (inl u) = at (u .timer)
       where
-        at : (Timer me (now - 1) x × (x .timer ≢ now)) ⊎ JustSet me now x → Slots me n period now x
+        at : (Timer me (now - 1) x × (x .timer ≢ now)) ⊎ JustSet me now x → FullSlots me n period now x
         at (inl t) = slots-quiet me n period now x d u (t .0) (t .1)
         at (inr j) = slots-heard me n period now x d u l j
     go d (inr u) = slots-ended me n period now x d l u

@@ -6,19 +6,20 @@ use mathlib.Core.Bool.{true, false, cond}
 use Prim.Native.Nat.{ℕ, _+_, _-_, _<_, _≤_}
 use native.Mathlib.Decide.{ℕ-discrete}
 use native.Mathlib.Omega.{arith}
-use lib.ListN.{length, getD, replicate, getD-replicate}
+use lib.ListN.{length, getD, replicate, length-replicate, getD-replicate}
 use lib.Dec.{ltb, eqb}
 use borrow.Author.Tests.{lt-ltb, le-ltb, eq-eqb, ne-eqb}
 use Rattle.lists.specs.Entries.{upTo}
-use Rattle.lists.proofs.Entries.{getD-upTo}
+use Rattle.lists.proofs.Entries.{length-upTo, length-over, getD-upTo}
+use Rattle.lists.proofs.Bools.{cond-elim}
 use Rattle.fit.specs.Fit.{fit, longestDelay}
 use Rattle.station.specs.declared.Station.{Station}
 use Rattle.fit.proofs.Down.{down-fits}
 use Rattle.fit.proofs.Tests.{Ranges, fit-ranges}
 use Rattle.station.proofs.Vectors.{zeros-at}
-use Rattle.handing.specs.Handed.{Holds, Finds, Runs}
+use Rattle.handing.specs.Handed.{Holds, Finds, Runs, Full, ByFull}
 use Rattle.election.specs.Sound.{emptyPlace, emptySeat, sound}
-use Rattle.election.specs.System.{noStation, noLink, station, place, from, to, delay, messages, holding, underway, isLink, unstarted, places}
+use Rattle.election.specs.System.{noStation, noLink, station, place, from, to, delay, messages, holding, underway, unused, isLink, unstarted, places}
 use Rattle.election.specs.declared.Message.{Message}
 use Rattle.election.specs.declared.System.{System}
 use Rattle.handing.proofs.Carries.{Inbox, noMail, no-mail}
@@ -48,6 +49,11 @@ around me n period tick x mail =
       links = upTo 64 (λ k. holding (mailed me mail (from k) (to k)));
     }
 
+-- a link that holds messages has all its places
+length-holding : (ms : List Message) → length ms ≤ places → length (holding ms .messages) ≡ places
+unfolding holding
+length-holding ms few = let e : length (replicate places unused) ≡ places = length-replicate places unused in length-over ms (replicate places unused) (omega arith) ∙ e
+
 module _ (me n period tick : ℕ) (x : Station) (mail : ℕ → List Message) where
   around-at : (p : ℕ) → In 8 p → station (around me n period tick x mail) p ≡ stood me n x p
   around-at p h =
@@ -63,6 +69,20 @@ module _ (me n period tick : ℕ) (x : Station) (mail : ℕ → List Message) wh
   pub around-underway : (p : ℕ) → In 8 p → In 8 me → length (mail p) ≤ places → underway (around me n period tick x mail) p me ≡ mail p
   around-underway p hp hm few =
       ap messages (at-link (λ a b. holding (mailed me mail a b)) p me noLink hp hm ∙ rw (eq-eqb me me refl)) ∙ messages-holding (mail p) few
+
+  -- its tables are full, if no sender has more messages than a link has places
+  pub around-full : ((p : ℕ) → length (mail p) ≤ places) → Full (around me n period tick x mail)
+  around-full few =
+      record {
+        stations = length-upTo 8 (λ k. stood me n x (k + 1));
+        sent = length-replicate {A = ℕ} 8 0;
+        delays = length-replicate {A = ℕ} 64 0;
+        links = length-upTo 64 (λ k. holding (mailed me mail (from k) (to k)));
+        each-link = λ k h. ap (λ l. length (l .messages)) (getD-upTo 64 (λ k. holding (mailed me mail (from k) (to k))) k noLink h) ∙ length-holding (mailed me mail (from k) (to k)) (some (from k) (to k));
+      }
+    where
+      some : (p q : ℕ) → length (mailed me mail p q) ≤ places
+      some p q = cond-elim (λ ms. length ms ≤ places) (eqb q me) (λ e. few p) (λ e. omega arith)
 
 -- the station itself is one of eight
 pub inside-eight : (me n period : ℕ) → Ranges me n period → In 8 me
@@ -149,13 +169,15 @@ module _ (me n period tick : ℕ) (x : Station) (mail : ℕ → List Message) (f
         }
 
 -- a command on station me finds the station there
-pub around-finds : (me n period tick : ℕ) (x : Station) → tick ≤ 1000000 → fit me n period tick x ≡ true → Finds me n period tick x
-around-finds me n period tick x h f =
-    record {
-      system = around me n period tick x noMail;
-      holds = around-holds me n period tick x noMail f (no-mail me n period tick) h;
-      is-station = around-station me n period tick x noMail (inside-eight me n period (fit-ranges me n period tick x f .0));
-    }
+pub around-finds : (me n period tick : ℕ) (x : Station) → tick ≤ 1000000 → fit me n period tick x ≡ true → ByFull (Finds me n period tick x) (λ h. h .system)
+around-finds me n period tick x h f = (
+  record {
+    system = around me n period tick x noMail;
+    holds = around-holds me n period tick x noMail f (no-mail me n period tick) h;
+    is-station = around-station me n period tick x noMail (inside-eight me n period (fit-ranges me n period tick x f .0));
+  },
+  around-full me n period tick x noMail (λ p. omega arith),
+)
 
 -- the tick now comes
 pub around-runs : (me n period now : ℕ) (x : Station) (mail : ℕ → List Message) → 1 ≤ now → now ≤ 1000000 → fit me n period (now - 1) x ≡ true → x .up ≡ true → Inbox me n period (now - 1) mail → Runs me n period now (around me n period (now - 1) x mail)

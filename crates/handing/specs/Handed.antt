@@ -1,17 +1,17 @@
 -- What a sound system hands to a station operation, by its next command or in its next tick.
 use mathlib.Core.Path.{_≡_}
-use mathlib.Core.Logic.{_≢_, _↔_}
+use mathlib.Core.Logic.{_≢_}
 use mathlib.Core.List.{List, _∷_, _++_}
 use mathlib.Core.Bool.{true}
-use Prim.Native.Nat.{ℕ, _+_, _-_, _≤_}
-use lib.ListN.{length}
+use Prim.Native.Nat.{ℕ, _+_, _-_, _<_, _≤_}
+use lib.ListN.{length, getD}
 use Rattle.lists.specs.Fold.{each}
 use Rattle.fit.specs.Fit.{fitStart, fitCrash, fitHear, fitExpire, fitSlot}
 use Rattle.station.specs.Limits.{lastTick}
 use Rattle.station.specs.declared.Station.{Station}
 use Rattle.election.specs.Heads.{hearing}
 use Rattle.election.specs.Sound.{sound}
-use Rattle.election.specs.System.{station, underway}
+use Rattle.election.specs.System.{noLink, station, underway, places}
 use Rattle.election.specs.Tick.{heardLink, heardAll, settled}
 use Rattle.election.specs.declared.Message.{Message}
 use Rattle.election.specs.declared.System.{System}
@@ -73,19 +73,39 @@ pub record Eight (x : Station) : Type 0 where
   pub counts : length (x .recovered) ≡ 8
   pub timeouts : length (x .timeouts) ≡ 8
 
+-- the tables of a system are full, as the code's are, and so is each link
+pub record Full (s : System) : Type 0 where
+  pub stations : length (s .stations) ≡ 8
+  pub sent : length (s .sent) ≡ 8
+  pub delays : length (s .delays) ≡ 64
+  pub links : length (s .links) ≡ 64
+  pub each-link : (k : ℕ) → k < 64 → length (getD (s .links) k noLink .messages) ≡ places
+
+-- handed over by a system of full tables
+abbrev pub ByFull : (H : Type 0) → (H → System) → Type 0
+ByFull H of = (h : H) × Full (of h)
+
+-- exactly: what fits is handed over by a sound system of full tables, and whatever a sound system hands over fits
+abbrev pub Exactly : Type 0 → (H : Type 0) → (H → System) → Type 0
+Exactly fits H of = (fits → ByFull H of) × (H → fits)
+
 -- an operation takes exactly what some sound system hands to it
 abbrev pub StartExact : Type 0
-StartExact = (me n period tick : ℕ) (x : Station) → (fitStart me n period tick x ≡ true) ↔ Finds me n period tick x
+StartExact =
+    (me n period tick : ℕ) (x : Station) → Exactly (fitStart me n period tick x ≡ true) (Finds me n period tick x) (λ h. h .system)
 
 abbrev pub CrashExact : Type 0
-CrashExact = (me n period tick : ℕ) (x : Station) → (fitCrash me n period tick x ≡ true) ↔ (Finds me n period tick x × (x .up ≡ true))
+CrashExact =
+    (me n period tick : ℕ) (x : Station) → Exactly (fitCrash me n period tick x ≡ true) (Finds me n period tick x × (x .up ≡ true)) (λ h. h .0 .system)
 
 abbrev pub HearExact : Type 0
 HearExact =
-    (me n period now q : ℕ) (v : List ℕ) (x : Station) → Eight x → (fitHear me n period now q v x ≡ true) ↔ Hears me n period now q v x
+    (me n period now q : ℕ) (v : List ℕ) (x : Station) → Eight x → Exactly (fitHear me n period now q v x ≡ true) (Hears me n period now q v x) (λ h. h .system)
 
 abbrev pub ExpireExact : Type 0
-ExpireExact = (me n period now : ℕ) (x : Station) → (fitExpire me n period now x ≡ true) ↔ Expires me n period now x
+ExpireExact =
+    (me n period now : ℕ) (x : Station) → Exactly (fitExpire me n period now x ≡ true) (Expires me n period now x) (λ h. h .system)
 
 abbrev pub SlotExact : Type 0
-SlotExact = (me n period now : ℕ) (x : Station) → Eight x → (fitSlot me n period now x ≡ true) ↔ Slots me n period now x
+SlotExact =
+    (me n period now : ℕ) (x : Station) → Eight x → Exactly (fitSlot me n period now x ≡ true) (Slots me n period now x) (λ h. h .system)
