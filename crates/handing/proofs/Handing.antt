@@ -38,15 +38,15 @@ pub crash-handed : (me n period tick : ℕ) (x : Station) → fitCrash me n peri
 crash-handed me n period tick x e = let (f, u) = crash-of me n period tick x e in let (h, full) = start-handed me n period tick x f in ((h, u), full)
 
 -- a message that is due now, sent some ticks before
-abbrev dueNow : ℕ → ℕ → List ℕ → Message
+abbrev pub dueNow : ℕ → ℕ → List ℕ → Message
 dueNow now sent v = record { sent = sent; due = now; counts = v }
 
-due-now : (n period now sent : ℕ) (v : List ℕ) → 1 ≤ now → sent ≤ now - 1 → now ≤ sent + longestDelay → Counts n v → Adrift n period (now - 1) (dueNow now sent v)
+pub due-now : (n period now sent : ℕ) (v : List ℕ) → 1 ≤ now → sent ≤ now - 1 → now ≤ sent + longestDelay → Counts n v → Adrift n period (now - 1) (dueNow now sent v)
 due-now n period now sent v low began soon c x d =
     record { sent-by = began; due-after = omega arith; due-by = soon; counts = of-counts n v c; before = λ u. absurd (true≢false (sym u ∙ d)) }
 
 -- mail of q alone
-abbrev only : ℕ → List Message → ℕ → List Message
+abbrev pub only : ℕ → List Message → ℕ → List Message
 only q ms = also q ms noMail
 
 -- the leader's message, with counts that say nothing

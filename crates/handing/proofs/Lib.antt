@@ -2,6 +2,7 @@
 pub mod Carries
 pub mod Earlier
 pub mod Exact
+pub mod Flight
 pub mod Handing
 pub mod OneSender
 pub mod Witness

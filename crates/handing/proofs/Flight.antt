@@ -1,0 +1,102 @@
+-- The flight limit is kept by every sound system, and reached by one.
+use mathlib.Core.Path.{_≡_, refl, subst}
+use mathlib.Core.List.{List, [], _∷_, _++_, append-assoc}
+use mathlib.Core.Bool.{true}
+use Prim.Native.Nat.{ℕ, _+_, _≤_}
+use native.Mathlib.Omega.{arith}
+use lib.ListN.{replicate}
+use Rattle.lists.proofs.Every.{all-right}
+use Rattle.fit.specs.Fit.{fit, flight, longestDelay}
+use Rattle.fit.proofs.Down.{down-fits}
+use Rattle.handing.specs.Flight.{Together, FlightExact}
+use Rattle.handing.specs.Handed.{Full}
+use Rattle.election.specs.System.{station, unstarted}
+use Rattle.election.specs.declared.Message.{Message}
+use Rattle.election.specs.declared.System.{System}
+use Rattle.election.proofs.Links.{Posted, zeros-in}
+use Rattle.election.proofs.Soundness.{sound-of, underway-spaced}
+use Rattle.election.proofs.Spaced.{Spaced, spaced-here, spaced-older}
+use Rattle.handing.proofs.Carries.{Adrift, Inbox, noMail, carries-two, no-mail, also-mail}
+use Rattle.handing.proofs.Handing.{dueNow, due-now, only}
+use Rattle.handing.proofs.Witness.{around, around-underway, around-full, around-sound}
+
+module _ (t : Together) where
+  abbrev s : System
+  s = t .system
+
+  abbrev P : Message → Type 0
+  P = Posted (s .n) (s .period) (s .tick) (station s (t .p))
+
+  mail : Spaced P (s .period) 0 ((t .first ++ (t .older ∷ t .between)) ++ (t .younger ∷ t .last))
+  mail =
+      rw append-assoc
+      (subst (Spaced P (s .period) 0) (t .is-mail)
+      (underway-spaced s (sound-of s (t .is-sound) (t .is-ready)) (t .p) (t .q) (record { low = t .p-low; high = t .p-high }) (record { low = t .q-low; high = t .q-high }) (t .other)))
+
+  older-sent : P (t .older) × (t .older .sent + s .period ≤ t .younger .sent)
+  older-sent =
+      all-right (λ (o : Message). P o × (o .sent + s .period ≤ t .younger .sent)) (t .first) (t .older ∷ t .between)
+      (spaced-older 0 (t .first ++ (t .older ∷ t .between)) (t .younger) (t .last) mail)
+      .0
+
+  younger-sent : t .younger .sent ≤ s .tick
+  younger-sent = spaced-here 0 (t .first ++ (t .older ∷ t .between)) (t .younger) (t .last) mail .1 .sent-by
+
+  -- the younger was sent by the tick; the older is due after it, and at most the longest delay after its sending
+  within-limit : (t .older .sent + s .period ≤ t .younger .sent) × (t .younger .sent ≤ t .older .sent + flight)
+  within-limit = (older-sent .1, omega (arith, older-sent .0 .due-by, older-sent .0 .due-after, younger-sent))
+
+-- two stations that are down, and two messages from 1 to 2: one at the longest delay, the other sent in the tick before it is due
+abbrev sentAt : ℕ → Message
+sentAt sent = dueNow longestDelay sent (replicate 8 0)
+
+abbrev two : List Message
+two = sentAt 0 ∷ sentAt flight ∷ []
+
+module _ (period : ℕ) (low : 16 ≤ period) (high : period ≤ flight) where
+  abbrev reaching : System
+  reaching = around 2 2 period flight (unstarted 2) (only 1 two)
+
+  down-two : fit 2 2 period flight (unstarted 2) ≡ true
+  down-two =
+      down-fits 2 2 period flight (unstarted 2)
+      (record { n-low = omega arith; n-high = omega arith; period-low = low; period-high = omega arith; me-low = omega arith; me-high = omega arith })
+      (record { few = omega arith; low = omega arith; high = omega arith })
+
+  inbox : Inbox 2 2 period flight (only 1 two)
+  inbox =
+      also-mail 2 2 period flight 1 two noMail refl
+      (carries-two 2 period flight (sentAt 0) (sentAt flight) (adrift 0 (omega arith)) (adrift flight (omega arith)) (omega arith))
+      (no-mail 2 2 period flight)
+    where
+      adrift : (sent : ℕ) → sent ≤ flight → Adrift 2 period flight (sentAt sent)
+      adrift sent h = due-now 2 period longestDelay sent (replicate 8 0) (omega arith) h (omega arith) (zeros-in 2)
+
+  reached-by : Together
+  reached-by =
+      record {
+        system = reaching;
+        is-sound = around-sound 2 2 period flight (unstarted 2) (only 1 two) down-two inbox (omega arith);
+        is-ready = refl;
+        p = 1;
+        q = 2;
+        p-low = omega arith;
+        p-high = omega arith;
+        q-low = omega arith;
+        q-high = omega arith;
+        other = λ e. omega arith;
+        first = [];
+        older = sentAt 0;
+        between = [];
+        younger = sentAt flight;
+        last = [];
+        is-mail = around-underway 2 2 period flight (unstarted 2) (only 1 two) 1 (record { low = omega arith; high = omega arith }) (record { low = omega arith; high = omega arith }) (inbox .carried 1 .few);
+        is-due = refl;
+      }
+
+  full : Full reaching
+  full = around-full 2 2 period flight (unstarted 2) (only 1 two) (λ p. inbox .carried p .few)
+
+pub flight-exact : FlightExact
+unfolding reached-by
+flight-exact = (within-limit, λ period low high. (reached-by period low high, full period low high, refl, refl))
