@@ -27,6 +27,8 @@ pub mod Counts
 pub mod FromOffset
 pub mod FirstOnly
 pub mod GoingOn
+-- The verdict of a listing
+pub mod Verdicts
 -- The tables, computed
 pub mod Opened
 pub mod Computed

@@ -5,11 +5,12 @@ pub mod Heads
 pub mod Tick
 pub mod Order
 pub mod Idle
--- Commands of one byte, and what is turned down: a command, soundness, a schedule, the listing; going on with a schedule
+-- Commands of one byte, and what is turned down: a command, soundness, a schedule, the listing and its verdict; going on with a schedule
 pub mod Sound
 pub mod Commands
 pub mod Schedule
 pub mod Listing
+pub mod Verdicts
 pub mod Onward
 -- The accepted commands of a schedule, and the claims
 pub mod History

@@ -1,6 +1,6 @@
 -- Laws of a test of every number.
 use mathlib.Core.Path.{_≡_, refl}
-use mathlib.Core.Bool.{Bool, true, false, _&&_, and-eq-true-iff}
+use mathlib.Core.Bool.{Bool, true, false, _&&_, and-eq-true-iff, true≢false}
 use Prim.Native.Nat.{ℕ, zero, suc, _+_, _<_}
 use native.Mathlib.Numerals.{add-one}
 use native.Mathlib.Decide.{decLt}
@@ -46,6 +46,16 @@ pub all-of : (n : ℕ) (t : ℕ → Bool) → ((k : ℕ) → k < n → t k ≡ t
 unfolding allTo
 all-of zero t h = refl
 all-of (suc n) t h = rw (all-of n t (λ k l. h k (omega arith)), h n (omega arith))
+
+-- where it does not hold of all, it fails of one
+pub all-fails : (n : ℕ) (t : ℕ → Bool) → allTo n t ≡ false → (k : ℕ) × (k < n) × (t k ≡ false)
+unfolding allTo
+all-fails zero t e = absurd (true≢false e)
+all-fails (suc n) t e = last (allTo n t) refl (all-fails n t)
+  where
+    last : (b : Bool) → allTo n t ≡ b → (allTo n t ≡ false → (k : ℕ) × (k < n) × (t k ≡ false)) → (k : ℕ) × (k < suc n) × (t k ≡ false)
+    last true f r = (n, omega arith, rw f at e)
+    last false f r = let (k, h, g) = r f in (k, omega arith, g)
 
 -- two tests that say the same
 pub all-same : (n : ℕ) (t u : ℕ → Bool) → ((k : ℕ) → k < n → t k ≡ u k) → allTo n t ≡ allTo n u
