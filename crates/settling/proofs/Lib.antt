@@ -1,4 +1,4 @@
--- The proof of demand 3, file by file in its order; then its instances, and the code.
+-- The proof of demand 3, file by file in its order; then its instances, that there is a leader, and the code.
 --   A  what holds of every system that a schedule reaches: nobody knows more starts of a head than it has had, each head's leader is
 --      before it or itself, its timeouts are above the period, its next chance is at most a period away once its wait is over
 --   B  one steady station at a time. A leader is late if it is L or after L by the counts known; a late leader gives way to L
@@ -23,6 +23,7 @@ pub mod G3-Begins
 pub mod G4-Walk
 pub mod H-Demand
 pub mod Instance
+pub mod Leader
 pub mod OfCode
 pub mod SomeCode
 pub mod Tested
