@@ -131,12 +131,12 @@ fn run(ready: bool, tick: u32, t: u32) -> Decision
     if !ready {
         return Decision::Refused(Refusal::NotSetUp);
     }
-    if t == 0 {
-        return Decision::Refused(Refusal::NoTicks);
-    }
-    match sum(tick, t) {
-        0..=1000000 => Decision::Run(t),
-        _ => Decision::Refused(Refusal::PastLastTick),
+    match t {
+        0 => Decision::Refused(Refusal::NoTicks),
+        _ => match sum(tick, t) {
+            0..=1000000 => Decision::Run(t),
+            _ => Decision::Refused(Refusal::PastLastTick),
+        },
     }
 }
 

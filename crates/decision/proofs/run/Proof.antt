@@ -18,12 +18,12 @@ returns-2 c s e f =
 returns-3 : tie.Need-returns-3
 returns-3 c s e f =
     let a = c .before .before .before .before .args in
-    rw (e, f, not-false (a .ready) (c .before .before .before .if1 .left), lt-ltb 0 (a .t) (omega (arith, c .before .before .if2 .left)), le-leb (a .tick + a .t) lastTick (omega (arith, c .before .sum .ensures)))
+    rw (e, f, not-false (a .ready) (c .before .before .before .if1 .left), lt-ltb 0 (a .t) (omega arith), le-leb (a .tick + a .t) lastTick (omega (arith, c .before .sum .ensures)))
 
 returns-4 : tie.Need-returns-4
 returns-4 c s e f =
     let a = c .before .before .before .before .args in
-    rw (e, f, not-false (a .ready) (c .before .before .before .if1 .left), lt-ltb 0 (a .t) (omega (arith, c .before .before .if2 .left)), lt-leb (a .tick + a .t) lastTick (omega (arith, c .before .sum .ensures)))
+    rw (e, f, not-false (a .ready) (c .before .before .before .if1 .left), lt-ltb 0 (a .t) (omega arith), lt-leb (a .tick + a .t) lastTick (omega (arith, c .before .sum .ensures)))
 
 pub run-spec : {M : Type 1} → statement M
-run-spec = tie.close (tie.spec returns returns-2 (λ c κs. search needs) returns-3 returns-4)
+run-spec = tie.close (tie.spec returns (λ c κs. search needs) returns-2 returns-3 returns-4)
