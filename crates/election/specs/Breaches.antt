@@ -4,7 +4,7 @@ use mathlib.Core.List.{List, [], _∷_, _++_}
 use mathlib.Core.Bool.{Bool, true, false}
 use Prim.Native.Nat.{ℕ}
 use lib.ListN.{replicate}
-use Rattle.election.specs.Rehearsals.{at20, run}
+use Rattle.election.specs.Rows.{start, crash, run, at20}
 use Rattle.election.specs.Schedule.{schedule}
 use Rattle.election.specs.Sound.{sound}
 use Rattle.election.specs.System.{unused, holding, withLink}
@@ -13,7 +13,7 @@ use Rattle.election.specs.declared.System.{System}
 
 -- η 16, two stations, both up, tick 34; 2 has just started again. The next send chances are at ticks 49 and 52.
 abbrev pub base : System
-base = schedule (at20 ++ run 14 ++ (0x03 ∷ 0x02 ∷ 0x02 ∷ 0x02 ∷ [])) .system
+base = schedule (at20 ++ run 14 ++ crash 2 ++ start 2) .system
 
 -- a message with a count of station 1, and a count of station 3, which is not there
 abbrev pub counting : ℕ → ℕ → ℕ → ℕ → Message

@@ -15,6 +15,9 @@ pub mod Onward
 -- The accepted commands of a schedule, and the claims
 pub mod History
 pub mod Claims
--- Tables that are computed: the rehearsals, and soundness breached clause by clause
+-- Tables that are computed: the rehearsals, the errors ruled out, and soundness breached clause by clause
+pub mod Text
+pub mod Rows
 pub mod Rehearsals
+pub mod Errors
 pub mod Breaches

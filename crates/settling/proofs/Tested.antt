@@ -188,58 +188,45 @@ found bytes stretch d L =
     }
 
 -- what the tests say, once they are computed
-module _ (bytes : List ℕ) (stretch : List (List ℕ)) (d L : ℕ) (y : Found) (e : found bytes stretch d L ≡ y) where
-  abbrev begin : System
-  begin = schedule bytes .system
+pub record Says (bytes : List ℕ) (stretch : List (List ℕ)) (d L : ℕ) (y : Found) : Type 0 where
+  pub accepted : schedule bytes .refusal ≡ y .refusal
+  pub first : y .first ≡ true → First (schedule bytes .system .n) (commands bytes) L
+  pub permitted : y .permitted ≡ true → Each (λ c x. Permitted c) stretch (schedule bytes .system)
+  pub none-lost : y .none-lost ≡ true → Each LosesNone stretch (schedule bytes .system)
+  pub none-cut : y .none-cut ≡ true → All (Sent (λ x. x ≢ 0)) (befores stretch (schedule bytes .system))
+  pub arriving : y .arriving ≡ true → Arriving d (schedule bytes .system)
+  pub within : y .within ≡ true → All (Sent (λ x. x ≤ d)) (befores stretch (schedule bytes .system))
+  pub all-ticks : length (befores stretch (schedule bytes .system)) ≡ y .all-ticks
+  pub divided : dividedTicks L (befores stretch (schedule bytes .system)) ≡ y .divided
+  pub bounded : bound d (schedule bytes .system) ≡ y .bound
+  pub passed : y .bound < y .divided → bound d (schedule bytes .system) < dividedTicks L (befores stretch (schedule bytes .system))
 
-  pub found-accepted : schedule bytes .refusal ≡ y .refusal
-  unfolding found
-  found-accepted = ap (λ (x : Found). x .refusal) e
+pub says : (bytes : List ℕ) (stretch : List (List ℕ)) (d L : ℕ) (y : Found) → found bytes stretch d L ≡ y → Says bytes stretch d L y
+unfolding found
+says bytes stretch d L y e =
+    let begin : System = schedule bytes .system in
+    let all : List System = befores stretch begin in
+    let divided : dividedTicks L all ≡ y .divided = ap (λ (x : Found). x .divided) e in
+    let bounded : bound d begin ≡ y .bound = ap (λ (x : Found). x .bound) e in
+    record {
+      accepted = ap (λ (x : Found). x .refusal) e;
+      first = λ t. first-of (begin .n) (commands bytes) L (ap (λ (x : Found). x .first) e ∙ t);
+      permitted = λ t. each-of (λ c x. Permitted c) (λ c x. permittedTest c) (λ c x. permitted-of c) stretch begin (ap (λ (x : Found). x .permitted) e ∙ t);
+      none-lost = λ t. each-of LosesNone losesNoneTest losesNone-of stretch begin (ap (λ (x : Found). x .none-lost) e ∙ t);
+      none-cut = λ t.
+          every-all (Sent (λ x. x ≢ 0)) (sentTest (λ x. not (eqb x 0)))
+          (sent-of (λ x. x ≢ 0) (λ x. not (eqb x 0)) (λ x g. eqb-false x 0 (not-true (eqb x 0) g))) all (ap (λ (x : Found). x .none-cut) e ∙ t);
+      arriving = λ t. arriving-of d begin (ap (λ (x : Found). x .arriving) e ∙ t);
+      within = λ t.
+          every-all (Sent (λ x. x ≤ d)) (sentTest (λ x. leb x d)) (sent-of (λ x. x ≤ d) (λ x. leb x d) (λ x. leb-true x d)) all
+          (ap (λ (x : Found). x .within) e ∙ t);
+      all-ticks = ap (λ (x : Found). x .all-ticks) e;
+      divided = divided;
+      bounded = bounded;
+      passed = λ l. omega (arith, divided, bounded);
+    }
 
-  pub found-first : y .first ≡ true → First (begin .n) (commands bytes) L
-  unfolding found
-  found-first t = first-of (begin .n) (commands bytes) L (ap (λ (x : Found). x .first) e ∙ t)
-
-  pub found-permitted : y .permitted ≡ true → Each (λ c x. Permitted c) stretch begin
-  unfolding found
-  found-permitted t =
-      each-of (λ c x. Permitted c) (λ c x. permittedTest c) (λ c x. permitted-of c) stretch begin (ap (λ (x : Found). x .permitted) e ∙ t)
-
-  pub found-none-lost : y .none-lost ≡ true → Each LosesNone stretch begin
-  unfolding found
-  found-none-lost t = each-of LosesNone losesNoneTest losesNone-of stretch begin (ap (λ (x : Found). x .none-lost) e ∙ t)
-
-  pub found-none-cut : y .none-cut ≡ true → All (Sent (λ x. x ≢ 0)) (befores stretch begin)
-  unfolding found
-  found-none-cut t =
-      every-all (Sent (λ x. x ≢ 0)) (sentTest (λ x. not (eqb x 0)))
-      (sent-of (λ x. x ≢ 0) (λ x. not (eqb x 0)) (λ x g. eqb-false x 0 (not-true (eqb x 0) g))) (befores stretch begin) (ap (λ (x : Found). x .none-cut) e ∙ t)
-
-  pub found-arriving : y .arriving ≡ true → Arriving d begin
-  unfolding found
-  found-arriving t = arriving-of d begin (ap (λ (x : Found). x .arriving) e ∙ t)
-
-  pub found-within : y .within ≡ true → All (Sent (λ x. x ≤ d)) (befores stretch begin)
-  unfolding found
-  found-within t =
-      every-all (Sent (λ x. x ≤ d)) (sentTest (λ x. leb x d)) (sent-of (λ x. x ≤ d) (λ x. leb x d) (λ x. leb-true x d)) (befores stretch begin)
-      (ap (λ (x : Found). x .within) e ∙ t)
-
-  pub found-quiet : y .permitted ≡ true → y .none-lost ≡ true → y .none-cut ≡ true → y .arriving ≡ true → y .within ≡ true → Quiet d stretch begin
-  found-quiet a b c f g =
-      record { permitted = found-permitted a; none-lost = found-none-lost b; none-cut = found-none-cut c; arriving = found-arriving f; within = found-within g }
-
-  pub found-all-ticks : length (befores stretch begin) ≡ y .all-ticks
-  unfolding found
-  found-all-ticks = ap (λ (x : Found). x .all-ticks) e
-
-  pub found-divided : dividedTicks L (befores stretch begin) ≡ y .divided
-  unfolding found
-  found-divided = ap (λ (x : Found). x .divided) e
-
-  pub found-bound : bound d begin ≡ y .bound
-  unfolding found
-  found-bound = ap (λ (x : Found). x .bound) e
-
-  pub found-passed : y .bound < y .divided → bound d begin < dividedTicks L (befores stretch begin)
-  found-passed l = omega (arith, found-divided, found-bound)
+-- all conditions on the stretch
+pub quiet-of : {bytes : List ℕ} {stretch : List (List ℕ)} {d L : ℕ} {y : Found} → Says bytes stretch d L y
+    → y .permitted ≡ true → y .none-lost ≡ true → y .none-cut ≡ true → y .arriving ≡ true → y .within ≡ true → Quiet d stretch (schedule bytes .system)
+quiet-of s a b c f g = record { permitted = s .permitted a; none-lost = s .none-lost b; none-cut = s .none-cut c; arriving = s .arriving f; within = s .within g }

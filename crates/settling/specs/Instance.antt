@@ -1,37 +1,31 @@
--- Demand 3 computed: one instance that meets every condition, and two that each miss one and pass the bound.
+-- Demand 3 computed: one instance that meets every condition, each no better than it has to be, and for each condition one that
+-- misses it alone and passes the bound.
 use mathlib.Core.Path.{_≡_}
 use mathlib.Core.Logic.{_≢_}
-use mathlib.Core.List.{List, [], _∷_, _++_}
+use mathlib.Core.List.{List, [], _∷_, _++_, map}
 use mathlib.Core.Bool.{true, false}
-use Prim.Native.Nat.{ℕ, _<_, _≤_}
+use Prim.Native.Nat.{ℕ, _+_, _<_, _≤_}
 use lib.ListN.{length, take}
 use Rattle.lists.specs.Every.{All}
 use Rattle.election.specs.Commands.{ruling}
-use Rattle.election.specs.Rehearsals.{started, run, at20, crash1, start1}
+use Rattle.election.specs.Rows.{setUp, start, crash, link, run, lose, report, started, at20}
 use Rattle.election.specs.Schedule.{schedule}
-use Rattle.settling.specs.Settling.{First, befores, dividedTicks, LosesNone, Each, Sent, Arriving, Quiet, upHeads, bound, given}
+use Rattle.settling.specs.Settling.{First, befores, dividedTicks, Permitted, LosesNone, Each, Sent, Arriving, Quiet, upHeads, bound, given}
 use Rattle.election.specs.History.{commands, starts}
-use Rattle.election.specs.System.{station, underway}
+use Rattle.election.specs.System.{station, sentBy, underway}
+use Rattle.election.specs.declared.Message.{Message}
 use Rattle.election.specs.declared.System.{System}
 
--- the bytes of a start, a link setting and a loss
-abbrev pub start : ℕ → List ℕ
-start p = 0x02 ∷ p ∷ []
-
-abbrev pub link : ℕ → ℕ → ℕ → List ℕ
-link p q delay = 0x04 ∷ p ∷ q ∷ delay ∷ []
-
-abbrev pub lose : ℕ → ℕ → List ℕ
-lose p q = 0x06 ∷ p ∷ q ∷ []
-
--- Three stations, η 16. Stations 1 and 2 start, and at tick 20 both trust 1. Then 3 starts. At tick 33 station 1 sends, with delay 3
--- to 2, and crashes. At tick 35 the timer of 2 has ended, and the message of the dead 1 is still under way to it.
+-- Three stations, η 16. Stations 1 and 2 start, and at tick 20 both trust 1; what 2 sent to 1 at tick 17 is due at 81. Then 3 starts. At
+-- tick 33 station 1 sends, with delay 3 to 2 and 3, and crashes. At tick 35 the timer of 2 has ended, and the messages of the dead 1
+-- are still under way.
 abbrev pub bytes : List ℕ
-bytes = (0x01 ∷ 0x03 ∷ 0x10 ∷ []) ++ start 1 ++ start 2 ++ run 20 ++ start 3 ++ link 1 2 3 ++ run 13 ++ crash1 ++ run 2
+bytes = setUp 3 16 ++ link 2 1 64 ++ start 1 ++ start 2 ++ run 20 ++ start 3 ++ link 1 2 3 ++ link 1 3 3 ++ run 13 ++ crash 1 ++ run 2
 
--- At tick 36 station 2 trusts the dead 1 again. At 65 it trusts itself and sends, and from 68 on 3 trusts it too.
+-- The dead 1's message to 3 is lost, and the ways to 1 are cut and slow. At tick 36 station 2 trusts the dead 1 again. At 65 it trusts
+-- itself and sends, and from 68 on 3 trusts it too.
 abbrev pub stretch : List (List ℕ)
-stretch = link 2 3 3 ∷ run 20 ∷ start 2 ∷ lose 2 3 ∷ run 18 ∷ []
+stretch = lose 1 3 ∷ link 2 3 3 ∷ link 2 1 0 ∷ link 3 1 64 ∷ report ∷ run 20 ∷ start 2 ∷ lose 2 3 ∷ run 18 ∷ []
 
 abbrev pub d : ℕ
 d = 3
@@ -53,46 +47,92 @@ pub record Instance : Type 0 where
   pub bounded : bound d begin ≡ 46
   -- two heads are up
   pub heads : upHeads begin ≡ 2
-  -- one message is under way from the dead 1 to 2, which is up
   pub dead : station begin 1 .up ≡ false
   pub alive : station begin 2 .up ≡ true
+  -- one message is under way from the dead 1 to 2, which is up, and one to 3, which the stretch loses
   pub old : length (underway begin 1 2) ≡ 1
+  pub lost : length (underway begin 1 3) ≡ 1
+  -- one is under way to the dead 1, and needs more than d ticks
+  pub late : map (λ (m : Message). m .due) (underway begin 2 1) ≡ (begin .tick + 46) ∷ []
+  -- 2 and 3 send in the stretch, to the dead 1 at delay 0 and at delay 64
+  pub sent : sentBy (given stretch begin) 2 ≡ sentBy begin 2 + 2
+  pub sent-slowly : sentBy (given stretch begin) 3 ≡ sentBy begin 3 + 4
   -- the start in the stretch is refused
-  pub refused : ruling (given (take 2 stretch) begin) (start 2) ≡ 8
+  pub refused : ruling (given (take 6 stretch) begin) (start 2) ≡ 8
 
--- A crash of L in the stretch: every other condition holds, and 38 ticks are divided where the bound is 36.
-abbrev pub bytesOfCrash : List ℕ
-bytesOfCrash = started ++ run 32
+-- the conditions on a stretch, one by one: nothing but runs, links, losses, reports and refusals; no message between up heads lost;
+-- none cut; none under way to an up head late; none sent late
+abbrev pub Only : List (List ℕ) → System → Type 0
+Only es s = Each (λ c x. Permitted c) es s
 
-abbrev pub stretchOfCrash : List (List ℕ)
-stretchOfCrash = crash1 ∷ run 40 ∷ []
+abbrev pub NoneLost : List (List ℕ) → System → Type 0
+NoneLost es s = Each LosesNone es s
 
-abbrev pub beginOfCrash : System
-beginOfCrash = schedule bytesOfCrash .system
+abbrev pub NoneCut : List (List ℕ) → System → Type 0
+NoneCut es s = All (Sent (λ x. x ≢ 0)) (befores es s)
 
-pub record CrashOfL : Type 0 where
-  pub accepted : schedule bytesOfCrash .refusal ≡ 0
-  pub first : First (beginOfCrash .n) (commands bytesOfCrash) 1
-  pub none-lost : Each LosesNone stretchOfCrash beginOfCrash
-  pub none-cut : All (Sent (λ x. x ≢ 0)) (befores stretchOfCrash beginOfCrash)
-  pub arriving : Arriving 1 beginOfCrash
-  pub within : All (Sent (λ x. x ≤ 1)) (befores stretchOfCrash beginOfCrash)
-  pub passed : bound 1 beginOfCrash < dividedTicks 1 (befores stretchOfCrash beginOfCrash)
+abbrev pub NoneSentLate : ℕ → List (List ℕ) → System → Type 0
+NoneSentLate d es s = All (Sent (λ x. x ≤ d)) (befores es s)
 
--- L is the up head with the lowest number, and not the one with fewest starts: every other condition holds, and 40 ticks are divided
--- where the bound is 37.
-abbrev pub bytesOfLowest : List ℕ
-bytesOfLowest = at20 ++ crash1 ++ start1 ++ run 19
+-- after an accepted schedule some of the conditions hold, and the divided ticks pass the bound
+pub record Passes (bytes : List ℕ) (stretch : List (List ℕ)) (d L : ℕ) (Conditions : System → Type 0) : Type 0 where
+  pub accepted : schedule bytes .refusal ≡ 0
+  pub conditions : Conditions (schedule bytes .system)
+  pub passed : bound d (schedule bytes .system) < dividedTicks L (befores stretch (schedule bytes .system))
 
-abbrev pub stretchOfLowest : List (List ℕ)
-stretchOfLowest = run 40 ∷ []
+-- L is the up head with fewest starts, the lowest number on a tie
+abbrev pub IsFirst : List ℕ → ℕ → System → Type 0
+IsFirst bytes L s = First (s .n) (commands bytes) L
 
-abbrev pub beginOfLowest : System
-beginOfLowest = schedule bytesOfLowest .system
+-- a crash of L in the stretch, and all else holds: 38 ticks are divided where the bound is 36
+abbrev pub beforeCrash : List ℕ
+beforeCrash = started ++ run 32
 
-pub record LowestNumber : Type 0 where
-  pub accepted : schedule bytesOfLowest .refusal ≡ 0
-  pub is-up : station beginOfLowest 1 .up ≡ true
-  pub not-fewest : starts 2 (commands bytesOfLowest) < starts 1 (commands bytesOfLowest)
-  pub quiet : Quiet 1 stretchOfLowest beginOfLowest
-  pub passed : bound 1 beginOfLowest < dividedTicks 1 (befores stretchOfLowest beginOfLowest)
+abbrev pub withCrash : List (List ℕ)
+withCrash = crash 1 ∷ run 40 ∷ []
+
+abbrev pub CrashOfL : Type 0
+CrashOfL = Passes beforeCrash withCrash 1 1 (λ s. IsFirst beforeCrash 1 s × NoneLost withCrash s × NoneCut withCrash s × Arriving 1 s × NoneSentLate 1 withCrash s)
+
+-- L's messages to an up head are lost, one after the other: 41 where the bound is 36
+abbrev pub withLosses : List (List ℕ)
+withLosses = run 13 ∷ lose 1 2 ∷ run 16 ∷ lose 1 2 ∷ run 16 ∷ lose 1 2 ∷ run 10 ∷ []
+
+abbrev pub LostToUp : Type 0
+LostToUp = Passes at20 withLosses 1 1 (λ s. IsFirst at20 1 s × Only withLosses s × NoneCut withLosses s × Arriving 1 s × NoneSentLate 1 withLosses s)
+
+-- L's link to an up head is cut: 41 where the bound is 36
+abbrev pub withCut : List (List ℕ)
+withCut = link 1 2 0 ∷ run 55 ∷ []
+
+abbrev pub CutToUp : Type 0
+CutToUp = Passes at20 withCut 1 1 (λ s. IsFirst at20 1 s × Only withCut s × NoneLost withCut s × Arriving 1 s × NoneSentLate 1 withCut s)
+
+-- L's messages to an up head are sent with more than d ticks to go: 41 where the bound is 36
+abbrev pub withDelay : List (List ℕ)
+withDelay = link 1 2 64 ∷ run 55 ∷ []
+
+abbrev pub SentLate : Type 0
+SentLate = Passes at20 withDelay 1 1 (λ s. IsFirst at20 1 s × Only withDelay s × NoneLost withDelay s × NoneCut withDelay s × Arriving 1 s)
+
+-- messages of a dead head are under way to an up one with more than d ticks to go: 41 where the bound is 36
+abbrev pub beforeLate : List ℕ
+beforeLate = setUp 2 16 ++ link 1 2 64 ++ start 1 ++ start 2 ++ run 66 ++ crash 1
+
+abbrev pub afterLate : List (List ℕ)
+afterLate = run 55 ∷ []
+
+abbrev pub LateUnderWay : Type 0
+LateUnderWay = Passes beforeLate afterLate 1 2 (λ s. IsFirst beforeLate 2 s × Only afterLate s × NoneLost afterLate s × NoneCut afterLate s × NoneSentLate 1 afterLate s)
+
+-- L is the up head with the lowest number, and not the one with fewest starts, and all else holds: 40 where the bound is 37
+abbrev pub beforeLowest : List ℕ
+beforeLowest = at20 ++ crash 1 ++ start 1 ++ run 19
+
+abbrev pub afterLowest : List (List ℕ)
+afterLowest = run 40 ∷ []
+
+abbrev pub LowestNumber : Type 0
+LowestNumber =
+    Passes beforeLowest afterLowest 1 1
+    (λ s. (station s 1 .up ≡ true) × (starts 2 (commands beforeLowest) < starts 1 (commands beforeLowest)) × Quiet 1 afterLowest s)
