@@ -1,6 +1,6 @@
 // Whether a system is sound: every clause of document 01's list, tested. No sum in the tests wraps.
 ghost use mathlib.Core.Path.{_≡_};
-ghost use Prim.Native.Nat.{_<_, _≤_};
+ghost use Prim.Native.Nat.{_+_, _<_, _≤_};
 ghost use Rattle.lists.specs.Test.{allTo};
 ghost use Rattle.election.specs.System.{places, isLink};
 ghost use Rattle.election.specs.Sound.{emptyStation, emptyMessage, messageIn, beforeSlot, messagePlace, apart, spaced, placesIn, ordered, linkIn, emptyPlaces, linkPlace, stationPlace, placeIn, stationIn, sound};
@@ -15,10 +15,17 @@ use fit::fit;
 use fit::wide;
 use station::Station;
 
-// The longest delay, and the count of a link whose places are all used.
-const LONGEST: u64 = LONGEST_DELAY as u64;
+// The longest delay in ticks, and the count of a link whose places are all used.
+const LONGEST: u32 = LONGEST_DELAY as u32;
 
 const FULL: u8 = PLACES as u8;
+
+// A number of ticks after a tick.
+fn later(tick: u32, ticks: u32) -> u64
+    ensures { λ r. ⌜ r ≡ tick + ticks ⌝ }
+{
+    wide(tick) + wide(ticks)
+}
 
 // Whether a place beyond the stations is zero.
 fn empty_station(x: Station) -> bool
@@ -40,7 +47,7 @@ fn message_in(n: u8, tick: u32, m: Message) -> bool
     ensures { λ r. ⌜ r ≡ messageIn n tick m ⌝ }
 {
     let v = m.counts;
-    let last = wide(m.sent) + LONGEST;
+    let last = later(m.sent, LONGEST);
     (m.sent <= tick) & (tick < m.due) & (wide(m.due) <= last) & counts_in(n, v)
 }
 
@@ -48,7 +55,7 @@ fn message_in(n: u8, tick: u32, m: Message) -> bool
 fn before_slot(period: u32, sender: Station, m: Message) -> bool
     ensures { λ r. ⌜ r ≡ beforeSlot period sender m ⌝ }
 {
-    let first = wide(m.sent) + wide(period);
+    let first = later(m.sent, period);
     let slot = wide(sender.slot);
     if sender.up { first <= slot } else { true }
 }
@@ -82,7 +89,7 @@ fn places_in(n: u8, period: u32, tick: u32, sender: Station, l: Link) -> bool
 fn apart(period: u32, older: Message, younger: Message) -> bool
     ensures { λ r. ⌜ r ≡ apart period older younger ⌝ }
 {
-    let first = wide(older.sent) + wide(period);
+    let first = later(older.sent, period);
     first <= wide(younger.sent)
 }
 
