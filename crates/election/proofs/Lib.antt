@@ -14,6 +14,7 @@ pub mod TickSound
 pub mod Underway
 -- The paper's order of a tick, and ticks in which nothing is due
 pub mod Order
+pub mod OrderLinks
 pub mod Idle
 -- Commands keep soundness; 15 is never met
 pub mod Accepting

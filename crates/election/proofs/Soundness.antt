@@ -126,18 +126,20 @@ module _ (s : System) where
           ∙ rw (le-leb (delay s (from k) (to k)) longestDelay (f .short (from k) (to k) hp hq ne), of-linked (s .n) (s .period) (s .tick) (station s (from k)) (getD (s .links) (place (from k) (to k)) noLink) (f .linked (from k) (to k) hp hq ne)))
       at k h false e = rw e (f .no-link k h e)
 
--- what is under way on a link, and that nothing is from a station to itself
+-- what is under way on a link, and that nothing is where there is no link, as from a station to itself
 module _ (s : System) (f : Sound s) where
   pub underway-spaced : (p q : ℕ) → In (s .n) p → In (s .n) q → p ≢ q → Spaced (Posted (s .n) (s .period) (s .tick) (station s p)) (s .period) 0 (underway s p q)
   underway-spaced p q hp hq ne =
       linked-spaced (s .n) (s .period) (s .tick) (station s p) (getD (s .links) (place p q) noLink) (f .linked p q hp hq ne)
 
-  pub underway-self : (p : ℕ) → In (s .n) p → underway s p p ≡ []
+  pub underway-nowhere : (k : ℕ) → k < 64 → isLink (s .n) (from k) (to k) ≡ false → messages (getD (s .links) k noLink) ≡ []
   unfolding emptyPlace messages
+  underway-nowhere k h none =
+      let l : Link = getD (s .links) k noLink in
+      let (a, b, c) = three (eqb (getD (s .delays) k 0) 0) (eqb (l .used) 0) (emptyPlaces l) (f .no-link k h none) in
+      ap (λ u. take u (l .messages)) (eqb-true (l .used) 0 b)
+
+  pub underway-self : (p : ℕ) → In (s .n) p → underway s p p ≡ []
   underway-self p h =
       let w : In 8 p = widen (s .n) p (f .n-high) h in
-      let k : ℕ = place p p in
-      let l : Link = getD (s .links) k noLink in
-      let none : isLink (s .n) (from k) (to k) ≡ false = rw (from-place p p w w, to-place p p w w) (no-self (s .n) p) in
-      let (a, b, c) = three (eqb (getD (s .delays) k 0) 0) (eqb (l .used) 0) (emptyPlaces l) (f .no-link k (place-in p p w w) none) in
-      ap (λ u. take u (l .messages)) (eqb-true (l .used) 0 b)
+      underway-nowhere (place p p) (place-in p p w w) (rw (from-place p p w w, to-place p p w w) (no-self (s .n) p))
