@@ -26,6 +26,7 @@ pub mod Follow
 pub mod Followed
 pub mod Counts
 pub mod FromOffset
+pub mod Ending
 pub mod FirstOnly
 pub mod GoingOn
 -- The verdict of a listing

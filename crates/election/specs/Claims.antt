@@ -37,6 +37,14 @@ RefusedChangesNothing =
 abbrev pub NeverUnsound : Type 0
 NeverUnsound = (bytes : List ℕ) → schedule bytes .refusal ≢ 15
 
+-- accepted, a schedule answers its length
+abbrev pub AcceptedWhole : Type 0
+AcceptedWhole = (bytes : List ℕ) → schedule bytes .refusal ≡ 0 → schedule bytes .offset ≡ length bytes
+
+-- refused, it answers the offset of one of its bytes, unless it is too long: then nothing is done
+abbrev pub RefusedInside : Type 0
+RefusedInside = (bytes : List ℕ) → schedule bytes .refusal ≢ 0 → schedule bytes .refusal ≢ 21 → schedule bytes .offset < length bytes
+
 -- after an accepted schedule a head's count is the number of its accepted starts: a worn-out head never looks young
 abbrev pub CountsStarts : Type 0
 CountsStarts =
