@@ -43,8 +43,8 @@ accepts (Start p) s t =
     let (r, t₁) = passed (s .ready) _ 2 t in
     let (i, t₂) = passed (within 1 p (s .n)) _ 6 t₁ in
     let (d, t₃) = passed (not (station s p .up)) _ 7 t₂ in
-    let (w, t₄) = passed (ltb (station s p .incarnation) mostStarts) _ 9 t₃ in
-    (r, in-of (s .n) p i, not-true (station s p .up) d, ltb-true (station s p .incarnation) mostStarts w)
+    let (w, t₄) = passed _ _ 9 t₃ in
+    (r, in-of (s .n) p i, not-true (station s p .up) d, ltb-true (station s p .incarnation) _ w)
 accepts (Crash p) s t =
     let (r, t₁) = passed (s .ready) _ 2 t in
     let (i, t₂) = passed (within 1 p (s .n)) _ 6 t₁ in
