@@ -252,39 +252,58 @@ pub rest-schedule : (bytes : List ℕ) → length bytes ≤ mostBytes → rest f
 unfolding schedule
 rest-schedule bytes l = rw (le-ltb mostBytes (length bytes) l)
 
-module _ (fuel room : ℕ) (s : System) (at : ℕ) (bytes : List ℕ) where
-  repeated-full : goOn true room s at bytes .full ≡ true
-      → repeated (suc fuel) room s at bytes ≡ goOn true room s at bytes .listed ++ repeated fuel room (goOn true room s at bytes .system) (goOn true room s at bytes .offset) bytes
-  unfolding repeated
-  repeated-full e = rw (e, repeated)
+-- what is to be printed from an offset on: the listings of the rest, and its last line
+unfoldable pub toPrint : System → ℕ → List ℕ → List ℕ
+toPrint s at bytes = listings s at bytes ++ lastLine (rest s at bytes)
 
-  repeated-end : goOn true room s at bytes .full ≡ false → repeated (suc fuel) room s at bytes ≡ listings s at bytes ++ lastLine (rest s at bytes)
-  unfolding repeated
-  repeated-end e = let r = stops true bytes room s at .at-end e in rw (r .lists-all refl, r .ends, e, repeated)
+pub prints-all : (bytes : List ℕ) → length bytes ≤ mostBytes → toPrint fresh 0 bytes ≡ output bytes
+unfolding toPrint output
+prints-all bytes l = rw (le-ltb mostBytes (length bytes) l, rest-schedule bytes l)
 
--- what going on prints from an offset: the listings and the last line of the rest
-repeated-rest : (fuel room : ℕ) (s : System) (at : ℕ) (bytes : List ℕ) → longestListing ≤ room → length bytes ≤ at + fuel
-    → repeated (suc fuel) room s at bytes ≡ listings s at bytes ++ lastLine (rest s at bytes)
+module _ (room : ℕ) (s : System) (at : ℕ) (bytes : List ℕ) where
+  -- at a stop for want of room it is what was listed, and what is to be printed from there on; at another, what was listed and the last line
+  pub prints-more : goOn true room s at bytes .full ≡ true
+      → toPrint s at bytes ≡ goOn true room s at bytes .listed ++ toPrint (goOn true room s at bytes .system) (goOn true room s at bytes .offset) bytes
+  unfolding toPrint
+  prints-more e =
+      let f = stops true bytes room s at .at-full e in
+      let h : Halt = goOn true room s at bytes in
+      ap (λ x. x ++ lastLine (rest s at bytes)) (f .lists-more)
+      ∙ append-assoc (h .listed) (listings (h .system) (h .offset) bytes) (lastLine (rest s at bytes))
+      ∙ ap (λ x. h .listed ++ (listings (h .system) (h .offset) bytes ++ lastLine x)) (f .goes-on)
+
+  pub prints-last : goOn true room s at bytes .full ≡ false → toPrint s at bytes ≡ goOn true room s at bytes .listed ++ lastLine (ending (goOn true room s at bytes))
+  unfolding toPrint
+  prints-last e = let r = stops true bytes room s at .at-end e in rw (r .lists-all refl, r .ends)
+
+  module _ (fuel : ℕ) where
+    repeated-full : goOn true room s at bytes .full ≡ true
+        → repeated (suc fuel) room s at bytes ≡ goOn true room s at bytes .listed ++ repeated fuel room (goOn true room s at bytes .system) (goOn true room s at bytes .offset) bytes
+    unfolding repeated
+    repeated-full e = rw (e, repeated)
+
+    repeated-end : goOn true room s at bytes .full ≡ false → repeated (suc fuel) room s at bytes ≡ toPrint s at bytes
+    unfolding repeated
+    repeated-end e = rw (e, repeated) (sym (prints-last e))
+
+-- going on again and again prints this from every offset
+repeated-rest : (fuel room : ℕ) (s : System) (at : ℕ) (bytes : List ℕ) → longestListing ≤ room → length bytes ≤ at + fuel → repeated (suc fuel) room s at bytes ≡ toPrint s at bytes
 repeated-rest zero room s at bytes r l = stop (goOn true room s at bytes .full) refl
   where
-    stop : (b : Bool) → goOn true room s at bytes .full ≡ b → repeated 1 room s at bytes ≡ listings s at bytes ++ lastLine (rest s at bytes)
+    stop : (b : Bool) → goOn true room s at bytes .full ≡ b → repeated 1 room s at bytes ≡ toPrint s at bytes
     stop true e = absurd (omega (arith, full-further room s at bytes r e))
-    stop false e = repeated-end zero room s at bytes e
+    stop false e = repeated-end room s at bytes zero e
 repeated-rest (suc fuel) room s at bytes r l = stop (goOn true room s at bytes .full) refl (repeated-rest fuel room)
   where
     stop : (b : Bool) → goOn true room s at bytes .full ≡ b
-        → ((s : System) (at : ℕ) (bytes : List ℕ) → longestListing ≤ room → length bytes ≤ at + fuel → repeated (suc fuel) room s at bytes ≡ listings s at bytes ++ lastLine (rest s at bytes))
-        → repeated (suc (suc fuel)) room s at bytes ≡ listings s at bytes ++ lastLine (rest s at bytes)
+        → ((s : System) (at : ℕ) (bytes : List ℕ) → longestListing ≤ room → length bytes ≤ at + fuel → repeated (suc fuel) room s at bytes ≡ toPrint s at bytes)
+        → repeated (suc (suc fuel)) room s at bytes ≡ toPrint s at bytes
     stop true e next =
-        let f = stops true bytes room s at .at-full e in
         let h : Halt = goOn true room s at bytes in
-        repeated-full (suc fuel) room s at bytes e
+        repeated-full room s at bytes (suc fuel) e
         ∙ ap (λ x. h .listed ++ x) (next (h .system) (h .offset) bytes r (omega (arith, full-further room s at bytes r e)))
-        ∙ sym (append-assoc (h .listed) (listings (h .system) (h .offset) bytes) (lastLine (rest (h .system) (h .offset) bytes)))
-        ∙ ap (λ x. x ++ lastLine (rest (h .system) (h .offset) bytes)) (sym (f .lists-more))
-        ∙ ap (λ x. listings s at bytes ++ lastLine x) (sym (f .goes-on))
-    stop false e next = repeated-end (suc fuel) room s at bytes e
+        ∙ sym (prints-more room s at bytes e)
+    stop false e next = repeated-end room s at bytes (suc fuel) e
 
 pub repeats-holds : Repeats
-unfolding output
-repeats-holds room bytes r l = repeated-rest (length bytes) room fresh 0 bytes r (omega arith) ∙ rw (le-ltb mostBytes (length bytes) l, rest-schedule bytes l)
+repeats-holds room bytes r l = repeated-rest (length bytes) room fresh 0 bytes r (omega arith) ∙ prints-all bytes l

@@ -1,2 +1,3 @@
--- What the program prints at each stop.
+-- What the program reads and prints, call by call and in all.
+pub mod Moving
 pub mod Printed

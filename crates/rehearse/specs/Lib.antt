@@ -1,2 +1,2 @@
--- What the program reads.
-pub mod Sizes
+-- What the program reads and prints.
+pub mod Moves

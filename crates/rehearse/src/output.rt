@@ -1,4 +1,10 @@
 // All that is printed for a schedule: its listings, a buffer of them at a time, then the last line.
+ghost use mathlib.Core.Path.{_≡_};
+ghost use Prim.Native.Nat.{_+_, _<_, _^_};
+ghost use lib.ListN.{length};
+ghost use Rattle.libc.specs.Io.{Moved};
+ghost use Rattle.election.specs.Listing.{output};
+ghost use Rattle.rehearse.specs.Moves.{moved, Next, Taken};
 use crate::stop::is_full;
 use crate::stop::refusal_of;
 use layout::rules::fresh;
@@ -6,25 +12,58 @@ use libc::STDOUT_FILENO;
 use listing::rules::ending::write_end;
 use simulator::rules::go_on;
 
-// Prints what a schedule gives, from the fresh system; answers whether all of it was written.
-pub fn rehearse(bytes: &[u8]) -> bool {
+// One write to standard output, of what comes next there for the schedule: keeps what the system answered, and counts the bytes
+// that it took. Nothing else in the program writes there.
+fn write_next(bytes: &[u8], text: &[u8], done: &mut usize, put: &mut isize)
+    requires { ⌜ Next (now bytes) (now done) (now text) ⌝ }
+    requires { ⌜ now done + length (now text) < 2 ^ 64 ⌝ }
+    ensures { λ _. ⌜ Moved (length (now (text .entry))) (now (put .exit)) ⌝ }
+    ensures { λ _. ⌜ now (done .exit) ≡ now (done .entry) + moved (now (put .exit)) ⌝ }
+{
+    *put = libc::write(STDOUT_FILENO, text);
+    *done += io::count(*put, text);
+}
+
+// Prints what comes next, in as many writes as it takes; answers whether all of it was taken.
+fn print(bytes: &[u8], text: &[u8], done: &mut usize, put: &mut isize) -> bool
+    requires { ⌜ Next (now bytes) (now done) (now text) ⌝ }
+    requires { ⌜ now done + length (now text) < 2 ^ 64 ⌝ }
+    ensures { λ r. ⌜ Taken r (now (put .exit)) (now (done .exit)) (now (done .entry) + length (now (text .entry))) ⌝ }
+{
+    let first = *done;
+    let mut at = 0;
+    while at < text.len() {
+        write_next(bytes, &text[at..], done, put);
+        if *put <= 0 {
+            return false;
+        }
+        at = *done - first;
+    }
+    true
+}
+
+// Prints what a schedule gives, from the fresh system; answers whether all of it was taken.
+pub fn rehearse(bytes: &[u8], done: &mut usize, put: &mut isize) -> bool
+    requires { ⌜ now done ≡ 0 ⌝ }
+    ensures { λ r. ⌜ Taken r (now (put .exit)) (now (done .exit)) (length (output (now (bytes .entry)))) ⌝ }
+{
     let mut buffer = io::large_buffer();
     if 65536 < bytes.len() {
         let size = write_end(21, 0, &mut buffer);
-        return io::write_all(STDOUT_FILENO, &buffer[..size]);
+        return print(bytes, &buffer[..size], done, put);
     }
     let mut s = fresh();
     let mut at = 0;
     loop {
         let r = go_on(s, at, bytes, true, &mut buffer);
         let size = r.size;
-        if !io::write_all(STDOUT_FILENO, &buffer[..size]) {
+        if !print(bytes, &buffer[..size], done, put) {
             return false;
         }
         let stop = r.stop;
         if !is_full(stop) {
             let last = write_end(refusal_of(stop), r.at, &mut buffer);
-            return io::write_all(STDOUT_FILENO, &buffer[..last]);
+            return print(bytes, &buffer[..last], done, put);
         }
         s = r.system;
         at = r.at;

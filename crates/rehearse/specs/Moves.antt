@@ -1,0 +1,51 @@
+-- What is read and printed, call by call: `got` is what the last read answered, `size` how many bytes were read so far, `room` how many
+-- there is room for; `put` is what the last write answered, and `done` how many bytes were taken so far of what is to be printed.
+use mathlib.Core.Path.{_≡_}
+use mathlib.Core.List.{List}
+use mathlib.Core.Bool.{Bool, true, false}
+use Prim.Native.Nat.{ℕ, _<_, _≤_}
+use lib.IntN.{ℤ, pos, negsuc}
+use lib.ListN.{length, take, drop}
+use Rattle.election.specs.Listing.{output}
+use Rattle.election.specs.Schedule.{mostBytes}
+use Rattle.rehearse.specs.declared.Ran.{Ran}
+use Rattle.rehearse.specs.declared.Ran.the-variants.{Printed, NotRead, NotPrinted}
+
+-- how many bytes a call moved; where it failed it answers -1, and moved none
+abbrev pub moved : ℤ → ℕ
+moved (pos k) = k
+moved (negsuc k) = 0
+
+abbrev pub Failed : ℤ → Type 0
+Failed answer = answer ≡ negsuc 0
+
+-- all was read that matters: the buffer is full, or the last read found the end of the input
+abbrev pub Whole : ℤ → ℕ → ℕ → Type 0
+Whole got size room = size < room → got ≡ pos 0
+
+-- then the rest of what was given, if there is any, changes nothing of what is to be printed
+abbrev pub Enough : Type 0
+Enough =
+    (given : List ℕ) (got : ℤ) (size room : ℕ) → mostBytes < room → Whole got size room → (got ≡ pos 0 → length given ≤ size)
+    → output (take size given) ≡ output given
+
+-- reading ends so, or at a read that failed
+abbrev pub Reading : Bool → ℤ → ℕ → ℕ → Type 0
+Reading true got size room = Whole got size room
+Reading false got size room = Failed got
+
+-- the text comes next in what is to be printed for the schedule
+abbrev pub Next : List ℕ → ℕ → List ℕ → Type 0
+Next bytes done text = take (length text) (drop done (output bytes)) ≡ text
+
+-- all bytes up to a place were taken, or the last write took none and some are left
+abbrev pub Taken : Bool → ℤ → ℕ → ℕ → Type 0
+Taken true put done all = done ≡ all
+Taken false put done all = (moved put ≡ 0) × (done < all)
+
+-- how the program ended: it read all and printed all that is to be printed for it; a read failed, and nothing was printed; or it read
+-- all, and a write took none of what was left
+abbrev pub Ended : Ran → ℤ → ℕ → List ℕ → ℤ → ℕ → Type 0
+Ended Printed got size space put done = Whole got size (length space) × Taken true put done (length (output (take size space)))
+Ended NotRead got size space put done = Failed got × (done ≡ 0)
+Ended NotPrinted got size space put done = Whole got size (length space) × Taken false put done (length (output (take size space)))
