@@ -8,10 +8,11 @@ use native.Mathlib.Omega.{arith}
 use borrow.Author.Tests.{lt-ltb}
 use lib.IntN.{ℤ}
 use lib.ListN.{length, take, drop, length-drop, length-append}
-use lib.Seq.{take-all, take-append-le, drop-append-seam, drop-drop, length-take-le}
+use lib.Seq.{take-all, take-append-seam, drop-append-seam, drop-drop, length-take-le}
 use Rattle.lists.specs.Entries.{over}
 use Rattle.lists.proofs.Bools.{cond-yes, cond-no}
-use Rattle.election.specs.Listing.{longestListing, endLine, output}
+use Rattle.lists.proofs.Entries.{take-over}
+use Rattle.election.specs.Listing.{endLine, output}
 use Rattle.election.specs.Onward.{goOn}
 use Rattle.election.specs.Schedule.{mostBytes, schedule}
 use Rattle.election.specs.Sound.{sound}
@@ -21,6 +22,7 @@ use Rattle.election.proofs.GoingOn.{go-sound, full-further, toPrint, prints-all
 use Rattle.layout.specs.Layout.{systemOf}
 use Rattle.layout.specs.declared.Layout.{Layout}
 use Rattle.listing.specs.Wrote.{Wrote}
+use Rattle.listing.proofs.Room.{end-room}
 use Rattle.simulator.specs.Gone.{Gone, gone, fullOf, refusalOf, said}
 use Rattle.simulator.specs.declared.rules.Onward.{Onward}
 use Rattle.rehearse.specs.Moves.{Next, Taken, Enough}
@@ -52,10 +54,10 @@ left-long bytes done z l = rw z (record { is = long-output bytes l; inside = ome
 pub left-first : (bytes : List ℕ) (done : ℕ) → done ≡ 0 → length bytes ≤ mostBytes → Left bytes done (toPrint fresh 0 bytes)
 left-first bytes done z l = rw z (record { is = sym (prints-all bytes l); inside = omega arith })
 
-module _ (bytes : List ℕ) (done : ℕ) (text more : List ℕ) (l : Left bytes done (text ++ more)) where
-  -- each front of a text that is left comes next
-  pub next-front : (n : ℕ) → n ≤ length text → Next bytes done (take n text)
-  next-front n h = ap (λ k. take k (drop done (output bytes))) (length-take-le n text h) ∙ ap (take n) (l .is) ∙ take-append-le n text more h
+module _ {bytes : List ℕ} {done : ℕ} (text more : List ℕ) (l : Left bytes done (text ++ more)) where
+  -- a text that is left first comes next
+  left-next : Next bytes done text
+  left-next = ap (take (length text)) (l .is) ∙ take-append-seam text more
 
   -- once all of it was taken, the rest is left; until then something is left
   left-after : (now : ℕ) → now ≡ done + length text → Left bytes now more
@@ -68,23 +70,26 @@ module _ (bytes : List ℕ) (done : ℕ) (text more : List ℕ) (l : Left bytes 
   left-some : (now : ℕ) → now < done + length text → now < length (output bytes)
   left-some now short = omega (arith, length-drop done (output bytes), ap length (l .is), length-append text more)
 
--- a front of what was written, in the buffer
-front : {text old new : List ℕ} {size : ℕ} → Wrote text old size new → (n : ℕ) → n ≤ size → take n new ≡ take n text
-unfolding over
-front {text = text} {old = old} w n h = ap (take n) (w .bytes) ∙ take-append-le n text (drop (length text) old) (omega (arith, w .count))
+-- what was written stands at the front of the buffer
+module _ {text old new : List ℕ} {size : ℕ} (w : Wrote text old size new) where
+  front : take size new ≡ text
+  front = ap (take size) (w .bytes) ∙ take-over size text old (sym (w .count))
 
--- its length, where it is all of it
-front-length : {text old new : List ℕ} {size : ℕ} → Wrote text old size new → (n : ℕ) → n ≡ size → length (take n new) ≡ length text
-front-length {text = text} w n h = ap length (front w n (omega arith)) ∙ length-take-le n text (omega (arith, w .count)) ∙ omega (arith, w .count)
+  pub written-within : size ≤ length new
+  unfolding over
+  written-within = omega (arith, w .count, ap length (w .bytes), length-append text (drop (length text) old))
+
+-- every last line has room in the program's buffer
+pub line-room : (refusal offset room : ℕ) → room ≡ 65536 → length (endLine refusal offset) ≤ room
+line-room refusal offset room e = omega (arith, end-room refusal offset)
 
 -- a line that is all that is left, and was written into the buffer
-module _ (bytes : List ℕ) (done : ℕ) (line : List ℕ) (l : Left bytes done line) (old new : List ℕ) (size : ℕ) (w : Wrote line old size new) where
-  pub next-line : (n : ℕ) → n ≤ size → Next bytes done (take n new)
-  next-line n h = subst (Next bytes done) (sym (front w n h)) (next-front bytes done line [] (rw append-nil l) n (omega (arith, w .count)))
+module _ {bytes : List ℕ} {done : ℕ} {line : List ℕ} (l : Left bytes done line) {old new : List ℕ} {size : ℕ} (w : Wrote line old size new) where
+  pub next-line : Next bytes done (take size new)
+  next-line = subst (Next bytes done) (sym (front w)) (left-next {bytes = bytes} {done = done} line [] (rw append-nil l))
 
-  pub line-taken : (b : Bool) (put : ℤ) (now n : ℕ) → n ≡ size → Taken b put now (done + length (take n new)) → Taken b put now (length (output bytes))
-  line-taken b put now n h =
-      subst (Taken b put now) (omega (arith, front-length w n h, length-drop done (output bytes), ap length (l .is), l .inside))
+  pub line-taken : (b : Bool) (put : ℤ) (now : ℕ) → Taken b put now (done + length (take size new)) → Taken b put now (length (output bytes))
+  line-taken b put now = subst (Taken b put now) (omega (arith, ap length (front w), length-drop done (output bytes), ap length (l .is), l .inside))
 
 -- where the program goes on with a schedule: a sound system, and what is left is what is to be printed from there on
 pub record Standing (bytes : List ℕ) (done : ℕ) (buffer : List ℕ) (s : Layout) (at : ℕ) : Type 0 where
@@ -106,59 +111,51 @@ prints s at bytes old = which (goOn true (length old) s at bytes .full) refl
     which true t = prints-more (length old) s at bytes t ∙ ap (λ x. goOn true (length old) s at bytes .listed ++ x) (sym (cond-yes _ _ t))
     which false f = prints-last (length old) s at bytes f ∙ ap (λ x. goOn true (length old) s at bytes .listed ++ x) (sym (cond-no _ _ f))
 
--- what going on listed
-abbrev listed : Layout → ℕ → List ℕ → List ℕ → List ℕ
-listed s at bytes old = goOn true (length old) (systemOf s) at bytes .listed
-
-module _ (bytes : List ℕ) (done : ℕ) (old : List ℕ) (s : Layout) (at : ℕ) (st : Standing bytes done old s at)
+-- one time that the program goes on
+module _ {bytes : List ℕ} {done : ℕ} {old : List ℕ} {s : Layout} {at : ℕ} (st : Standing bytes done old s at)
     (new : List ℕ) (r : Onward) (e : said r new ≡ gone true (systemOf s) at bytes old) where
-  -- it was written, lies within the buffer and is left first
-  wrote : Wrote (listed s at bytes old) old (r .size) new
+  -- its listings were written, and are left first
+  abbrev listed : List ℕ
+  listed = goOn true (length old) (systemOf s) at bytes .listed
+
+  pub wrote : Wrote listed old (r .size) new
   wrote = record { count = ap (λ (g : Gone). g .written) e; bytes = ap (λ (g : Gone). g .buffer) e }
 
-  pub written-within : r .size ≤ length new
-  unfolding over
-  written-within = let l : List ℕ = listed s at bytes old in omega (arith, wrote .count, ap length (wrote .bytes), length-append l (drop (length l) old))
+  left-listed : Left bytes done (listed ++ onwards (said r new) bytes)
+  left-listed = subst (λ (g : Gone). Left bytes done (listed ++ onwards g bytes)) (sym e) (subst (Left bytes done) (prints (systemOf s) at bytes old) (st .left))
 
-  left-listed : Left bytes done (listed s at bytes old ++ onwards (said r new) bytes)
-  left-listed =
-      subst (λ (g : Gone). Left bytes done (listed s at bytes old ++ onwards g bytes)) (sym e) (subst (Left bytes done) (prints (systemOf s) at bytes old) (st .left))
+  pub next-listed : Next bytes done (take (r .size) new)
+  next-listed = subst (Next bytes done) (sym (front wrote)) (left-next listed (onwards (said r new) bytes) left-listed)
 
-  pub next-listed : (n : ℕ) → n ≤ r .size → Next bytes done (take n new)
-  next-listed n h =
-      subst (Next bytes done) (sym (front wrote n h)) (next-front bytes done (listed s at bytes old) (onwards (said r new) bytes) left-listed n (omega (arith, wrote .count)))
+  pub some-left : (now : ℕ) → now < done + length (take (r .size) new) → now < length (output bytes)
+  some-left now short = left-some listed (onwards (said r new) bytes) left-listed now (omega (arith, ap length (front wrote)))
 
-  -- until it was taken, something is left
-  pub some-left : (now n : ℕ) → n ≡ r .size → now < done + length (take n new) → now < length (output bytes)
-  some-left now n h short =
-      left-some bytes done (listed s at bytes old) (onwards (said r new) bytes) left-listed now (omega (arith, front-length wrote n h))
+  -- they are few enough bytes to be counted
+  pub counted : length bytes ≤ mostBytes → length new ≡ length old → done + length (take (r .size) new) ≤ 65536 * 65537
+  counted short same = omega (arith, st .few, st .within, st .room, written-within wrote, length-take-le (r .size) new (written-within wrote))
 
-  -- once it was taken, the program goes on from a stop for want of room, and at another the last line is left
-  module _ (now n : ℕ) (h : n ≡ r .size) (all : now ≡ done + length (take n new)) where
+  -- where it stopped for want of room, it came further
+  pub leads-on : fullOf (r .stop) ≡ true → (at < r .at) × (r .at < length bytes)
+  leads-on t =
+      rw (sym (ap (λ (g : Gone). g .offset) e)) at
+      (full-further (length old) (systemOf s) at bytes (omega (arith, st .room)) (sym (ap (λ (g : Gone). g .full) e) ∙ t))
+
+  -- once they were taken, the program goes on from such a stop, and at another the last line is left
+  module _ (now : ℕ) (all : now ≡ done + length (take (r .size) new)) where
     then-left : Left bytes now (onwards (said r new) bytes)
-    then-left = left-after bytes done (listed s at bytes old) (onwards (said r new) bytes) left-listed now (omega (arith, front-length wrote n h))
-
-    -- few enough bytes to be counted
-    pub counted : length bytes ≤ mostBytes → length new ≡ length old → now ≤ 65536 * 65537
-    counted short same = omega (arith, st .few, st .within, st .room, written-within, length-take-le n new (omega (arith, written-within)))
+    then-left = left-after listed (onwards (said r new) bytes) left-listed now (omega (arith, ap length (front wrote)))
 
     pub line-left : fullOf (r .stop) ≡ false → Left bytes now (endLine (refusalOf (r .stop)) (r .at))
     unfolding onwards
     line-left f = subst (Left bytes now) (cond-no _ _ f) then-left
 
-    module _ (t : fullOf (r .stop) ≡ true) where
-      pub leads-on : (at < r .at) × (r .at < length bytes)
-      leads-on =
-          rw (sym (ap (λ (g : Gone). g .offset) e)) at
-          (full-further (length old) (systemOf s) at bytes (omega (arith, st .room)) (sym (ap (λ (g : Gone). g .full) e) ∙ t))
-
-      pub stands : length new ≡ length old → Standing bytes now new (r .system) (r .at)
-      unfolding onwards
-      stands same =
-          record {
-            ok = rw (sym (ap (λ (g : Gone). g .system) e)) at (go-sound true (length old) (systemOf s) at bytes (st .ok));
-            room = same ∙ st .room;
-            within = omega (arith, leads-on .1);
-            few = omega (arith, st .few, st .room, same, written-within, h, front-length wrote n h, wrote .count, leads-on .0);
-            left = subst (Left bytes now) (cond-yes _ _ t) then-left;
-          }
+    pub stands : fullOf (r .stop) ≡ true → length new ≡ length old → Standing bytes now new (r .system) (r .at)
+    unfolding onwards
+    stands t same =
+        record {
+          ok = rw (sym (ap (λ (g : Gone). g .system) e)) at (go-sound true (length old) (systemOf s) at bytes (st .ok));
+          room = same ∙ st .room;
+          within = omega (arith, leads-on t .1);
+          few = omega (arith, st .few, st .room, written-within wrote, length-take-le (r .size) new (written-within wrote), leads-on t .0);
+          left = subst (Left bytes now) (cond-yes _ _ t) then-left;
+        }
