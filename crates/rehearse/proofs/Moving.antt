@@ -73,12 +73,16 @@ module _ (bytes : List ℕ) (done : ℕ) (text : List ℕ) (n : Next bytes done 
       let whole : take (length text - at) (drop at text) ≡ drop at text = take-all (length text - at) (drop at text) (omega (arith, length-drop at text)) in
       ap (λ k. take k (drop (done + at) (output bytes))) (ap length whole ∙ length-drop at text) ∙ sym part ∙ sym whole
 
+-- a write took none, and some are left
+pub stuck : (put : ℤ) (done all : ℕ) → moved put ≡ 0 → done < all → Taken false put done all
+stuck put done all none some = (none, some)
+
 -- what a test of whether all was taken tells, and of whether no read failed
 pub taken-all : (b : Bool) (put : ℤ) {done all : ℕ} → Taken b put done all → not b ≡ false → done ≡ all
 taken-all true put t e = t
 taken-all false put t e = absurd (true≢false e)
 
-pub taken-some : (b : Bool) (put : ℤ) {done all : ℕ} → Taken b put done all → not b ≡ true → (moved put ≡ 0) × (done < all)
+pub taken-some : (b : Bool) (put : ℤ) {done all : ℕ} → Taken b put done all → not b ≡ true → Taken false put done all
 taken-some true put t e = absurd (true≢false (sym e))
 taken-some false put t e = t
 

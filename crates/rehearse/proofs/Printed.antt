@@ -127,8 +127,8 @@ module _ {bytes : List ℕ} {done : ℕ} {old : List ℕ} {s : Layout} {at : ℕ
   pub next-listed : Next bytes done (take (r .size) new)
   next-listed = subst (Next bytes done) (sym (front wrote)) (left-next listed (onwards (said r new) bytes) left-listed)
 
-  pub some-left : (now : ℕ) → now < done + length (take (r .size) new) → now < length (output bytes)
-  some-left now short = left-some listed (onwards (said r new) bytes) left-listed now (omega (arith, ap length (front wrote)))
+  pub some-left : (put : ℤ) (now : ℕ) → Taken false put now (done + length (take (r .size) new)) → Taken false put now (length (output bytes))
+  some-left put now (none, short) = (none, left-some listed (onwards (said r new) bytes) left-listed now (omega (arith, ap length (front wrote))))
 
   -- they are few enough bytes to be counted
   pub counted : length bytes ≤ mostBytes → length new ≡ length old → done + length (take (r .size) new) ≤ 65536 * 65537

@@ -65,8 +65,8 @@ returns-2 c =
     let gone = c .before .before .before .before .before .before .go-on in
     let new = gone .last .1 .1 .1 .1 .0 in
     let print = c .before .print2 in
-    let (none, some) = taken-some (print .result) (print .last .1 .1 .1 .0) (print .ensures) (c .if2 .taken) in
-    (none, some-left (loop .inv) new (gone .result) (gone .ensures) (print .last .1 .1 .0) some)
+    some-left (loop .inv) new (gone .result) (gone .ensures) (print .last .1 .1 .1 .0) (print .last .1 .1 .0)
+    (taken-some (print .result) (print .last .1 .1 .1 .0) (print .ensures) (c .if2 .taken))
 
 print-requires-3 : tie.Need-print-requires-3 Inv-loop μ-loop
 print-requires-3 c κs =
@@ -136,8 +136,8 @@ rehearse-spec =
     (λ c κs. search needs)
     (λ c. sym (c .before .before .before .before .before .before .before .before .before .before .go-on .kept .1 .1 .1 .1 .0 ∙ c .before .before .before .before .before .before .before .before .before .before .before .before .loop .inv .room))
     (λ c κs. line-room _ _ _ (c .before .before .before .before .before .before .before .before .before .before .go-on .kept .1 .1 .1 .1 .0 ∙ c .before .before .before .before .before .before .before .before .before .before .before .before .loop .inv .room))
-    (λ c. written-within (c .before .write-end2 .ensures))
-    (λ c. sym (length-take-le _ _ (written-within (c .before .before .write-end2 .ensures))))
+    (λ c. omega (arith, written-within (c .before .write-end2 .ensures)))
+    (λ c. search (needs, length-take-le _ (c .before .before .write-end2 .last .1 .1 .0) (written-within (c .before .before .write-end2 .ensures))))
     print-requires-3
     returns-3
     loop-less
