@@ -1,14 +1,14 @@
 -- What is read and printed, call by call.
 use mathlib.Core.Path.{_≡_, refl, sym, ap, subst, _∙_}
-use mathlib.Core.List.{List, [], _∷_, _++_}
+use mathlib.Core.List.{List}
 use mathlib.Core.Bool.{Bool, true, false, not, true≢false}
-use Prim.Native.Nat.{ℕ, zero, suc, _+_, _-_, _<_, _≤_, _^_}
+use Prim.Native.Nat.{ℕ, _+_, _-_, _<_, _≤_, _^_}
 use native.Mathlib.Omega.{arith}
 use borrow.Author.Tests.{ltb-true, leb-true, leb-false}
 use borrow.Author.Needs.{sfits-of}
 use lib.IntN.{ℤ, pos, negsuc}
 use lib.ListN.{length, take, drop, length-drop, length-take}
-use lib.Seq.{take-add, take-all, take-length, drop-at, drop-drop, length-take-le}
+use lib.Seq.{take-add, take-all, drop-at, drop-drop, length-take-le}
 use lib.Signed.{ltZ, leZ, mag}
 use mir.Facts.{toZ-ofZ}
 use mir.Syntax.{w64}

@@ -12,9 +12,6 @@ returns c =
     let read = c .before .before .before .read-schedule in
     (read-failed (read .result) (read .last .1 .0) (length (read .last .0)) (read .ensures .1) (c .if1 .taken), c .before .before .before .before .before .before .before .before .pre .1 .1)
 
-slice-aggregate-rehearse : tie.Need-slice-aggregate-rehearse
-slice-aggregate-rehearse c = sym (length-take-le _ _ (c .before .before .before .before .before .read-schedule .ensures .0))
-
 returns-2 : tie.Need-returns-2
 returns-2 c =
     let read = c .before .before .before .before .before .before .before .before .before .read-schedule in
@@ -35,7 +32,7 @@ run-spec =
     (λ c. search needs)
     returns
     (λ c. search needs)
-    slice-aggregate-rehearse
+    (λ c. sym (length-take-le _ _ (c .before .before .before .before .before .read-schedule .ensures .0)))
     (λ c κs. search needs)
     (λ c. search needs)
     returns-2
