@@ -11,13 +11,14 @@ use Rattle.election.specs.Schedule.{mostBytes}
 use Rattle.rehearse.specs.declared.Ran.{Ran}
 use Rattle.rehearse.specs.declared.Ran.the-variants.{Printed, NotRead, NotPrinted}
 
--- how many bytes a call moved; where it failed it answers -1, and moved none
+-- a call failed: it answered -1
+abbrev pub Failed : ℤ → Type 0
+Failed answer = answer ≡ negsuc 0
+
+-- how many bytes a call moved, none where it failed
 abbrev pub moved : ℤ → ℕ
 moved (pos k) = k
 moved (negsuc k) = 0
-
-abbrev pub Failed : ℤ → Type 0
-Failed answer = answer ≡ negsuc 0
 
 -- all was read that matters: the buffer is full, or the last read found the end of the input
 abbrev pub Whole : ℤ → ℕ → ℕ → Type 0
@@ -43,8 +44,7 @@ abbrev pub Taken : Bool → ℤ → ℕ → ℕ → Type 0
 Taken true put done all = done ≡ all
 Taken false put done all = (moved put ≡ 0) × (done < all)
 
--- how the program ended: it read all and printed all that is to be printed for it; a read failed, and nothing was printed; or it read
--- all, and a write took none of what was left
+-- how the program ended: all was read and printed; a read failed, and nothing was printed; or all was read, and a write took none of what was left
 abbrev pub Ended : Ran → ℤ → ℕ → List ℕ → ℤ → ℕ → Type 0
 Ended Printed got size space put done = Whole got size (length space) × Taken true put done (length (output (take size space)))
 Ended NotRead got size space put done = Failed got × (done ≡ 0)
