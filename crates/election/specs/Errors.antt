@@ -5,7 +5,7 @@ use mathlib.Core.Bool.{Bool, true, false}
 use Prim.Native.Nat.{ℕ}
 use lib.ListN.{replicate}
 use Rattle.election.specs.Listing.{decimal, output}
-use Rattle.election.specs.Rows.{Row, Hold, inLast, leaders, trusted, timeout, known, sentCount, delayOf, carried, setUp, start, crash, link, run, lose, report, started, at20}
+use Rattle.election.specs.Rows.{Row, Hold, inLast, leaders, trusted, timeout, kept, known, sentCount, delayOf, carried, setUp, start, crash, link, run, lose, report, started, at20}
 use Rattle.election.specs.Schedule.{schedule}
 use Rattle.election.specs.Text.{text}
 use Rattle.election.specs.declared.System.{System}
@@ -53,6 +53,8 @@ errors =
     ∷ record { bytes = at20 ++ link 1 2 0 ++ run 13; view = inLast (sentCount 1); seen = 0 ∷ 2 ∷ [] }
     -- with candidates compared before the vectors are joined stations 2 and 3 would trust 2
     ∷ record { bytes = setUp 3 16 ++ start 2 ++ start 1 ++ start 3 ++ run 20; view = inLast leaders; seen = 0 ∷ 1 ∷ 1 ∷ 1 ∷ [] }
+    -- with the leader kept at every chance, and not at the first alone, station 2 would keep 1
+    ∷ record { bytes = at20 ++ run 15; view = inLast (kept 2); seen = 0 ∷ 1 ∷ 2 ∷ [] }
     -- a link is one way: with the way back cut too station 1 would not know of 2
     ∷ record { bytes = setUp 2 16 ++ link 1 2 0 ++ start 1 ++ start 2 ++ run 18; view = inLast (known 1); seen = 0 ∷ 1 ∷ 1 ∷ 1 ∷ [] }
     -- a message carries the vector after (a): with the one before the tick station 3 would not know of 2

@@ -27,7 +27,7 @@ inLast f bytes = let e : End = schedule bytes in e .refusal ∷ f (e .system)
 abbrev pub leaders : System → List ℕ
 leaders s = upTo (s .n) (λ k. station s (k + 1) .leader)
 
--- whom a station trusts; with its timeout for another station, with its start count, with the counts that it knows
+-- whom a station trusts; with its timeout for another station, with its start count, with the leader that it keeps, with the counts that it knows
 abbrev pub trusted : ℕ → System → List ℕ
 trusted p s = station s p .leader ∷ []
 
@@ -36,6 +36,9 @@ timeout p q s = station s p .leader ∷ entry (station s p .timeouts) q ∷ []
 
 abbrev pub count : ℕ → System → List ℕ
 count p s = station s p .leader ∷ station s p .incarnation ∷ []
+
+abbrev pub kept : ℕ → System → List ℕ
+kept p s = station s p .leader ∷ station s p .stable ∷ []
 
 abbrev pub known : ℕ → System → List ℕ
 known p s = station s p .leader ∷ take (s .n) (station s p .recovered)
