@@ -14,7 +14,7 @@ printing = tt
 
 pub errors-ruled-out : NoneOfTheErrors
 unfolding printing
-errors-ruled-out = ((refl, (refl, (refl, (refl, (refl, (refl, (refl, (refl, (refl, (refl, (refl, (refl, tt)))))))))))), (refl, (refl, tt)), refl, refl, refl, refl)
+errors-ruled-out = ((refl, (refl, (refl, (refl, (refl, (refl, (refl, (refl, (refl, (refl, (refl, (refl, (refl, (refl, tt)))))))))))))), (refl, (refl, (refl, tt))), refl, refl, refl, refl)
 
 pub rehearsed : Rehearsed
 unfolding printing

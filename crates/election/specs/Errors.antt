@@ -5,7 +5,7 @@ use mathlib.Core.Bool.{Bool, true, false}
 use Prim.Native.Nat.{ℕ}
 use lib.ListN.{replicate}
 use Rattle.election.specs.Listing.{decimal, output}
-use Rattle.election.specs.Rows.{Row, Hold, inLast, leaders, trusted, timeout, kept, known, sentCount, delayOf, carried, setUp, start, crash, link, run, lose, report, started, at20}
+use Rattle.election.specs.Rows.{Row, Hold, inLast, leaders, trusted, timeouts, kept, known, sentCount, delayOf, carried, setUp, start, crash, link, run, lose, report, started, at20}
 use Rattle.election.specs.Schedule.{schedule}
 use Rattle.election.specs.Text.{text}
 use Rattle.election.specs.declared.System.{System}
@@ -34,6 +34,23 @@ fourPrinted =
     ++ text "split\n"
     ++ text "refused 7 at 21\n"
 
+-- station 2, which keeps 1, starts for the second time at tick 37, and 1 is dead: its timer and its first chance are both at 37 + 16 + 2, the timer
+-- before the chance, so that it keeps itself
+abbrev pub startedAgain : List ℕ
+startedAgain = setUp 2 16 ++ start 1 ++ run 20 ++ start 2 ++ run 17 ++ crash 2 ++ crash 1 ++ start 2 ++ run 17 ++ report ++ run 1 ++ report
+
+abbrev pub againPrinted : List ℕ
+againPrinted =
+    text "tick 54\n"
+    ++ text "1 down leader - inc 1 rec - sent 2 kept 1\n"
+    ++ text "2 up leader 1 inc 2 rec 0,2 sent 0 kept 1\n"
+    ++ text "agreed 1\n"
+    ++ text "tick 55\n"
+    ++ text "1 down leader - inc 1 rec - sent 2 kept 1\n"
+    ++ text "2 up leader 2 inc 2 rec 0,2 sent 1 kept 2\n"
+    ++ text "agreed 2\n"
+    ++ text "end 27\n"
+
 -- dark, before any start
 abbrev pub darkPrinted : List ℕ
 darkPrinted =
@@ -42,7 +59,7 @@ darkPrinted =
 abbrev pub errors : List Row
 errors =
     -- a timer ended before the message of the same tick would raise the timeout to 18
-    record { bytes = at20 ++ link 1 2 2 ++ run 15; view = inLast (timeout 2 1); seen = 0 ∷ 1 ∷ 17 ∷ [] }
+    record { bytes = at20 ++ link 1 2 2 ++ run 15; view = inLast (timeouts 2); seen = 0 ∷ 1 ∷ 17 ∷ 0 ∷ [] }
     -- with the delay read at arrival station 2 would trust itself
     ∷ record { bytes = at20 ++ link 1 2 3 ++ run 14 ++ link 1 2 1 ++ run 2; view = inLast (trusted 2); seen = 0 ∷ 1 ∷ [] }
     -- with a crash that loses the sender's messages station 2 would trust itself
@@ -55,6 +72,14 @@ errors =
     ∷ record { bytes = setUp 3 16 ++ start 2 ++ start 1 ++ start 3 ++ run 20; view = inLast leaders; seen = 0 ∷ 1 ∷ 1 ∷ 1 ∷ [] }
     -- with the leader kept at every chance, and not at the first alone, station 2 would keep 1
     ∷ record { bytes = at20 ++ run 15; view = inLast (kept 2); seen = 0 ∷ 1 ∷ 2 ∷ [] }
+    -- with every timeout raised at a timer's end the one for 3 would be 18 too; with a sending counted once 1 would have sent 1
+    ∷ record { bytes = setUp 3 16 ++ start 1 ++ start 2 ++ start 3 ++ run 20 ++ crash 1 ++ run 15; view = inLast (λ s. timeouts 2 s ++ sentCount 1 s); seen = 0 ∷ 2 ∷ 18 ∷ 0 ∷ 17 ∷ 2 ∷ [] }
+    -- 2 trusts 1 and hears from it that it has started again: not looking at itself then, 2 would go on trusting it
+    ∷ record {
+      bytes = setUp 2 16 ++ link 2 1 0 ++ link 1 2 20 ++ start 1 ++ start 2 ++ run 18 ++ crash 1 ++ start 1 ++ link 1 2 2 ++ run 20;
+      view = inLast (known 2);
+      seen = 0 ∷ 2 ∷ 2 ∷ 1 ∷ [];
+    }
     -- a link is one way: with the way back cut too station 1 would not know of 2
     ∷ record { bytes = setUp 2 16 ++ link 1 2 0 ++ start 1 ++ start 2 ++ run 18; view = inLast (known 1); seen = 0 ∷ 1 ∷ 1 ∷ 1 ∷ [] }
     -- a message carries the vector after (a): with the one before the tick station 3 would not know of 2
@@ -70,6 +95,7 @@ errors =
 abbrev pub prints : List Row
 prints =
     record { bytes = fourReports; view = output; seen = fourPrinted }
+    ∷ record { bytes = startedAgain; view = output; seen = againPrinted }
     ∷ record { bytes = setUp 2 16 ++ report; view = output; seen = darkPrinted }
     ∷ []
 

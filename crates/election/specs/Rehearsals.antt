@@ -2,7 +2,7 @@
 use mathlib.Core.List.{List, [], _∷_, _++_}
 use Prim.Native.Nat.{ℕ}
 use Rattle.election.specs.Listing.{output}
-use Rattle.election.specs.Rows.{Row, Hold, inLast, leaders, trusted, timeout, count, setUp, start, crash, link, run, report, started, at20}
+use Rattle.election.specs.Rows.{Row, Hold, inLast, leaders, trusted, timeouts, count, setUp, start, crash, link, run, report, started, at20}
 use Rattle.election.specs.Text.{text}
 
 -- the listing of document 01, and the last line
@@ -23,7 +23,7 @@ rehearsals =
     ∷ record { bytes = started ++ run 18; view = inLast leaders; seen = 0 ∷ 1 ∷ 1 ∷ [] }
     -- from tick 20, link 1 to 2 delay 3: at 35 station 2 trusts itself; at 36 it trusts 1 again with timeout 18
     ∷ record { bytes = at20 ++ link 1 2 3 ++ run 15; view = inLast (trusted 2); seen = 0 ∷ 2 ∷ [] }
-    ∷ record { bytes = at20 ++ link 1 2 3 ++ run 16; view = inLast (timeout 2 1); seen = 0 ∷ 1 ∷ 18 ∷ [] }
+    ∷ record { bytes = at20 ++ link 1 2 3 ++ run 16; view = inLast (timeouts 2); seen = 0 ∷ 1 ∷ 18 ∷ 0 ∷ [] }
     -- from tick 20, crash 1: station 2 still trusts it at 34; not at 35
     ∷ record { bytes = at20 ++ crash 1 ++ run 14; view = inLast (trusted 2); seen = 0 ∷ 1 ∷ [] }
     ∷ record { bytes = at20 ++ crash 1 ++ run 15; view = inLast (trusted 2); seen = 0 ∷ 2 ∷ [] }

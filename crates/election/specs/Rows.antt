@@ -4,7 +4,6 @@ use mathlib.Core.List.{List, [], _∷_, _++_}
 use Prim.Native.Nat.{ℕ, _+_}
 use lib.ListN.{length, take}
 use Rattle.lists.specs.Entries.{upTo}
-use Rattle.station.specs.Order.{entry}
 use Rattle.election.specs.Schedule.{End, schedule}
 use Rattle.election.specs.System.{station, delay, sentBy, underway}
 use Rattle.election.specs.declared.System.{System}
@@ -27,12 +26,12 @@ inLast f bytes = let e : End = schedule bytes in e .refusal ∷ f (e .system)
 abbrev pub leaders : System → List ℕ
 leaders s = upTo (s .n) (λ k. station s (k + 1) .leader)
 
--- whom a station trusts; with its timeout for another station, with its start count, with the leader that it keeps, with the counts that it knows
+-- whom a station trusts; with its timeouts, with its start count, with the leader that it keeps, with the counts that it knows
 abbrev pub trusted : ℕ → System → List ℕ
 trusted p s = station s p .leader ∷ []
 
-abbrev pub timeout : ℕ → ℕ → System → List ℕ
-timeout p q s = station s p .leader ∷ entry (station s p .timeouts) q ∷ []
+abbrev pub timeouts : ℕ → System → List ℕ
+timeouts p s = station s p .leader ∷ take (s .n) (station s p .timeouts)
 
 abbrev pub count : ℕ → System → List ℕ
 count p s = station s p .leader ∷ station s p .incarnation ∷ []

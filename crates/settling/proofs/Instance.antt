@@ -52,7 +52,7 @@ seen s =
       old = length (underway s 1 2);
       lost = length (underway s 1 3);
       late = map (λ (m : Message). m .due) (underway s 2 1);
-      refused = ruling (given (take 6 stretch) s) (start 2);
+      refused = ruling (given (take 7 stretch) s) (start 2);
       more2 = sentBy (given stretch s) 2;
       more3 = sentBy (given stretch s) 3;
     }

@@ -22,10 +22,10 @@ use Rattle.election.specs.declared.System.{System}
 abbrev pub bytes : List ℕ
 bytes = setUp 3 16 ++ link 2 1 64 ++ start 1 ++ start 2 ++ run 20 ++ start 3 ++ link 1 2 3 ++ link 1 3 3 ++ run 13 ++ crash 1 ++ run 2
 
--- The dead 1's message to 3 is lost, and the ways to 1 are cut and slow. At tick 36 station 2 trusts the dead 1 again. At 65 it trusts
+-- The dead 1's message to 3 is lost, and the one to it; then the ways to 1 are cut and slow. At tick 36 station 2 trusts the dead 1 again. At 65 it trusts
 -- itself and sends, and from 68 on 3 trusts it too.
 abbrev pub stretch : List (List ℕ)
-stretch = lose 1 3 ∷ link 2 3 3 ∷ link 2 1 0 ∷ link 3 1 64 ∷ report ∷ run 20 ∷ start 2 ∷ lose 2 3 ∷ run 18 ∷ []
+stretch = lose 1 3 ∷ lose 2 1 ∷ link 2 3 3 ∷ link 2 1 0 ∷ link 3 1 64 ∷ report ∷ run 20 ∷ start 2 ∷ lose 2 3 ∷ run 18 ∷ []
 
 abbrev pub d : ℕ
 d = 3
@@ -52,13 +52,13 @@ pub record Instance : Type 0 where
   -- one message is under way from the dead 1 to 2, which is up, and one to 3, which the stretch loses
   pub old : length (underway begin 1 2) ≡ 1
   pub lost : length (underway begin 1 3) ≡ 1
-  -- one is under way to the dead 1, and needs more than d ticks
+  -- one is under way to the dead 1, needs more than d ticks, and is lost too
   pub late : map (λ (m : Message). m .due) (underway begin 2 1) ≡ (begin .tick + 46) ∷ []
   -- 2 and 3 send in the stretch, to the dead 1 at delay 0 and at delay 64
   pub sent : sentBy (given stretch begin) 2 ≡ sentBy begin 2 + 2
   pub sent-slowly : sentBy (given stretch begin) 3 ≡ sentBy begin 3 + 4
   -- the start in the stretch is refused
-  pub refused : ruling (given (take 6 stretch) begin) (start 2) ≡ 8
+  pub refused : ruling (given (take 7 stretch) begin) (start 2) ≡ 8
 
 -- the conditions on a stretch, one by one: nothing but runs, links, losses, reports and refusals; no message between up heads lost;
 -- none cut; none under way to an up head late; none sent late
