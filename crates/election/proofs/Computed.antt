@@ -1,21 +1,31 @@
--- The tables of specs/Rehearsals.antt and specs/Errors.antt, computed.
+-- The tables of specs/Rehearsals.antt and specs/Errors.antt, computed by the rules.
 use mathlib.Core.Path.{refl}
 use Rattle.lists.specs.Join.{joinTo}
-use Rattle.election.specs.Errors.{NoneOfTheErrors}
+use Rattle.election.specs.Errors.{errors, prints, DarkTwice, Decimals, FreshWhole, SetUpWhole, EightWhole}
 use Rattle.election.specs.Listing.{digits, countOf, vector, status, leaderOf, vectorOf, stationLine, stationLines, dark, agreed, aLeader, verdict, verdictLine, listingOf, reported, endLine, reports, output}
-use Rattle.election.specs.Rehearsals.{Rehearsed}
+use Rattle.election.specs.Rehearsals.{rehearsals}
 use Rattle.election.specs.Text.{text}
 use Rattle.election.proofs.Opened.{rules}
+use Rattle.election.proofs.Ruled.{ruled, HoldRuled}
 
 -- what is opened to compute what is printed
 unfoldable printing : Unit {0}
-unfolding rules text digits joinTo countOf vector status leaderOf vectorOf stationLine stationLines dark agreed aLeader verdict verdictLine listingOf reported endLine reports output
+unfolding rules ruled text digits joinTo countOf vector status leaderOf vectorOf stationLine stationLines dark agreed aLeader verdict verdictLine listingOf reported endLine
 printing = tt
 
-pub errors-ruled-out : NoneOfTheErrors
+pub errors-ruled : HoldRuled errors
 unfolding printing
-errors-ruled-out = ((refl, (refl, (refl, (refl, (refl, (refl, (refl, (refl, (refl, (refl, (refl, (refl, (refl, (refl, tt)))))))))))))), (refl, (refl, (refl, tt))), refl, refl, refl, refl)
+errors-ruled = ((refl, refl), ((refl, refl), ((refl, refl), ((refl, refl), ((refl, refl), ((refl, refl), ((refl, refl), ((refl, refl), ((refl, refl), ((refl, refl), ((refl, refl), ((refl, refl), ((refl, refl), ((refl, refl), tt))))))))))))))
 
-pub rehearsed : Rehearsed
+pub prints-ruled : HoldRuled prints
 unfolding printing
-rehearsed = (refl, (refl, (refl, (refl, (refl, (refl, (refl, (refl, (refl, (refl, tt))))))))))
+prints-ruled = ((refl, refl), ((refl, refl), tt))
+
+-- these from the definitions themselves
+pub spelled-out : DarkTwice × Decimals × FreshWhole × SetUpWhole × EightWhole
+unfolding printing reports output
+spelled-out = (refl, refl, refl, refl, refl)
+
+pub rehearsals-ruled : HoldRuled rehearsals
+unfolding printing
+rehearsals-ruled = ((refl, refl), ((refl, refl), ((refl, refl), ((refl, refl), ((refl, refl), ((refl, refl), ((refl, refl), ((refl, refl), ((refl, refl), ((refl, refl), tt))))))))))

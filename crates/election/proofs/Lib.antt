@@ -31,7 +31,9 @@ pub mod FirstOnly
 pub mod GoingOn
 -- The verdict of a listing
 pub mod Verdicts
--- The tables, computed
+-- The tables, computed by the rules alone
 pub mod Opened
+pub mod Ruled
 pub mod Computed
+pub mod Tables
 pub mod Breaches

@@ -5,7 +5,7 @@ use mathlib.Core.Bool.{Bool, true, false}
 use Prim.Native.Nat.{ℕ}
 use lib.ListN.{replicate}
 use Rattle.election.specs.Listing.{decimal, output}
-use Rattle.election.specs.Rows.{Row, Hold, inLast, leaders, trusted, timeouts, kept, known, sentCount, delayOf, carried, setUp, start, crash, link, run, lose, report, started, at20}
+use Rattle.election.specs.Rows.{Row, Printed, InLast, Hold, leaders, trusted, timeouts, kept, known, sentCount, delayOf, carried, setUp, start, crash, link, run, lose, report, started, at20}
 use Rattle.election.specs.Schedule.{schedule}
 use Rattle.election.specs.Text.{text}
 use Rattle.election.specs.declared.System.{System}
@@ -51,53 +51,54 @@ againPrinted =
     ++ text "agreed 2\n"
     ++ text "end 27\n"
 
--- dark, before any start
-abbrev pub darkPrinted : List ℕ
-darkPrinted =
-    text "tick 0\n" ++ text "1 down leader - inc 0 rec - sent 0 kept 1\n" ++ text "2 down leader - inc 0 rec - sent 0 kept 2\n" ++ text "dark\n" ++ text "end 4\n"
-
 abbrev pub errors : List Row
 errors =
     -- a timer ended before the message of the same tick would raise the timeout to 18
-    record { bytes = at20 ++ link 1 2 2 ++ run 15; view = inLast (timeouts 2); seen = 0 ∷ 1 ∷ 17 ∷ 0 ∷ [] }
+    record { bytes = at20 ++ link 1 2 2 ++ run 15; view = InLast (timeouts 2); seen = 0 ∷ 1 ∷ 17 ∷ 0 ∷ [] }
     -- with the delay read at arrival station 2 would trust itself
-    ∷ record { bytes = at20 ++ link 1 2 3 ++ run 14 ++ link 1 2 1 ++ run 2; view = inLast (trusted 2); seen = 0 ∷ 1 ∷ [] }
+    ∷ record { bytes = at20 ++ link 1 2 3 ++ run 14 ++ link 1 2 1 ++ run 2; view = InLast (trusted 2); seen = 0 ∷ 1 ∷ [] }
     -- with a crash that loses the sender's messages station 2 would trust itself
-    ∷ record { bytes = at20 ++ link 1 2 3 ++ run 14 ++ crash 1 ++ run 2; view = inLast (trusted 2); seen = 0 ∷ 1 ∷ [] }
+    ∷ record { bytes = at20 ++ link 1 2 3 ++ run 14 ++ crash 1 ++ run 2; view = InLast (trusted 2); seen = 0 ∷ 1 ∷ [] }
     -- with one that loses the receiver's mail station 2 would not know of 1
-    ∷ record { bytes = at20 ++ link 1 2 3 ++ run 14 ++ crash 2 ++ start 2 ++ run 2; view = inLast (known 2); seen = 0 ∷ 1 ∷ 1 ∷ 2 ∷ [] }
+    ∷ record { bytes = at20 ++ link 1 2 3 ++ run 14 ++ crash 2 ++ start 2 ++ run 2; view = InLast (known 2); seen = 0 ∷ 1 ∷ 1 ∷ 2 ∷ [] }
     -- with cut messages not counted station 1 would have sent 1
-    ∷ record { bytes = at20 ++ link 1 2 0 ++ run 13; view = inLast (sentCount 1); seen = 0 ∷ 2 ∷ [] }
+    ∷ record { bytes = at20 ++ link 1 2 0 ++ run 13; view = InLast (sentCount 1); seen = 0 ∷ 2 ∷ [] }
     -- with candidates compared before the vectors are joined stations 2 and 3 would trust 2
-    ∷ record { bytes = setUp 3 16 ++ start 2 ++ start 1 ++ start 3 ++ run 20; view = inLast leaders; seen = 0 ∷ 1 ∷ 1 ∷ 1 ∷ [] }
+    ∷ record { bytes = setUp 3 16 ++ start 2 ++ start 1 ++ start 3 ++ run 20; view = InLast leaders; seen = 0 ∷ 1 ∷ 1 ∷ 1 ∷ [] }
     -- with the leader kept at every chance, and not at the first alone, station 2 would keep 1
-    ∷ record { bytes = at20 ++ run 15; view = inLast (kept 2); seen = 0 ∷ 1 ∷ 2 ∷ [] }
+    ∷ record { bytes = at20 ++ run 15; view = InLast (kept 2); seen = 0 ∷ 1 ∷ 2 ∷ [] }
     -- with every timeout raised at a timer's end the one for 3 would be 18 too; with a sending counted once 1 would have sent 1
-    ∷ record { bytes = setUp 3 16 ++ start 1 ++ start 2 ++ start 3 ++ run 20 ++ crash 1 ++ run 15; view = inLast (λ s. timeouts 2 s ++ sentCount 1 s); seen = 0 ∷ 2 ∷ 18 ∷ 0 ∷ 17 ∷ 2 ∷ [] }
+    ∷ record { bytes = setUp 3 16 ++ start 1 ++ start 2 ++ start 3 ++ run 20 ++ crash 1 ++ run 15; view = InLast (λ s. timeouts 2 s ++ sentCount 1 s); seen = 0 ∷ 2 ∷ 18 ∷ 0 ∷ 17 ∷ 2 ∷ [] }
     -- 2 trusts 1 and hears from it that it has started again: not looking at itself then, 2 would go on trusting it
     ∷ record {
       bytes = setUp 2 16 ++ link 2 1 0 ++ link 1 2 20 ++ start 1 ++ start 2 ++ run 18 ++ crash 1 ++ start 1 ++ link 1 2 2 ++ run 20;
-      view = inLast (known 2);
+      view = InLast (known 2);
       seen = 0 ∷ 2 ∷ 2 ∷ 1 ∷ [];
     }
     -- a link is one way: with the way back cut too station 1 would not know of 2
-    ∷ record { bytes = setUp 2 16 ++ link 1 2 0 ++ start 1 ++ start 2 ++ run 18; view = inLast (known 1); seen = 0 ∷ 1 ∷ 1 ∷ 1 ∷ [] }
+    ∷ record { bytes = setUp 2 16 ++ link 1 2 0 ++ start 1 ++ start 2 ++ run 18; view = InLast (known 1); seen = 0 ∷ 1 ∷ 1 ∷ 1 ∷ [] }
     -- a message carries the vector after (a): with the one before the tick station 3 would not know of 2
-    ∷ record { bytes = setUp 3 16 ++ link 2 3 0 ++ link 2 1 16 ++ start 1 ++ start 2 ++ start 3 ++ run 34; view = inLast (known 3); seen = 0 ∷ 1 ∷ 1 ∷ 1 ∷ 1 ∷ [] }
+    ∷ record { bytes = setUp 3 16 ++ link 2 3 0 ++ link 2 1 16 ++ start 1 ++ start 2 ++ start 3 ++ run 34; view = InLast (known 3); seen = 0 ∷ 1 ∷ 1 ∷ 1 ∷ 1 ∷ [] }
     -- lose takes every message, and one way alone: two are under way each way before
-    ∷ record { bytes = setUp 2 16 ++ link 1 2 64 ++ link 2 1 64 ++ start 1 ++ start 2 ++ run 34; view = inLast (carried 1 2); seen = 0 ∷ 2 ∷ 2 ∷ [] }
-    ∷ record { bytes = setUp 2 16 ++ link 1 2 64 ++ link 2 1 64 ++ start 1 ++ start 2 ++ run 34 ++ lose 1 2; view = inLast (carried 1 2); seen = 0 ∷ 0 ∷ 2 ∷ [] }
+    ∷ record { bytes = setUp 2 16 ++ link 1 2 64 ++ link 2 1 64 ++ start 1 ++ start 2 ++ run 34; view = InLast (carried 1 2); seen = 0 ∷ 2 ∷ 2 ∷ [] }
+    ∷ record { bytes = setUp 2 16 ++ link 1 2 64 ++ link 2 1 64 ++ start 1 ++ start 2 ++ run 34 ++ lose 1 2; view = InLast (carried 1 2); seen = 0 ∷ 0 ∷ 2 ∷ [] }
     -- a delay outlives a crash of its sender
-    ∷ record { bytes = started ++ link 1 2 3 ++ crash 1 ++ start 1; view = inLast (delayOf 1 2); seen = 0 ∷ 3 ∷ [] }
+    ∷ record { bytes = started ++ link 1 2 3 ++ crash 1 ++ start 1; view = InLast (delayOf 1 2); seen = 0 ∷ 3 ∷ [] }
     ∷ []
 
 -- what is printed: every report, every word, every digit
 abbrev pub prints : List Row
 prints =
-    record { bytes = fourReports; view = output; seen = fourPrinted }
-    ∷ record { bytes = startedAgain; view = output; seen = againPrinted }
-    ∷ record { bytes = setUp 2 16 ++ report; view = output; seen = darkPrinted }
+    record { bytes = fourReports; view = Printed; seen = fourPrinted }
+    ∷ record { bytes = startedAgain; view = Printed; seen = againPrinted }
     ∷ []
+
+-- a listing at each of two reports, before any start
+abbrev pub darkPrinted : List ℕ
+darkPrinted = text "tick 0\n" ++ text "1 down leader - inc 0 rec - sent 0 kept 1\n" ++ text "2 down leader - inc 0 rec - sent 0 kept 2\n" ++ text "dark\n"
+
+abbrev pub DarkTwice : Type 0
+DarkTwice = output (setUp 2 16 ++ report ++ report) ≡ darkPrinted ++ darkPrinted ++ text "end 5\n"
 
 abbrev pub Decimals : Type 0
 Decimals = map decimal (0 ∷ 9 ∷ 10 ∷ 4095 ∷ 7000000 ∷ 12345678901234567890 ∷ []) ≡ map text ("0" ∷ "9" ∷ "10" ∷ "4095" ∷ "7000000" ∷ "12345678901234567890" ∷ [])
@@ -150,4 +151,4 @@ EightWhole =
 
 -- the tables
 abbrev pub NoneOfTheErrors : Type 0
-NoneOfTheErrors = Hold errors × Hold prints × Decimals × FreshWhole × SetUpWhole × EightWhole
+NoneOfTheErrors = Hold errors × Hold prints × DarkTwice × Decimals × FreshWhole × SetUpWhole × EightWhole

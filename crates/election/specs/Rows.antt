@@ -4,23 +4,29 @@ use mathlib.Core.List.{List, [], _∷_, _++_}
 use Prim.Native.Nat.{ℕ, _+_}
 use lib.ListN.{length, take}
 use Rattle.lists.specs.Entries.{upTo}
+use Rattle.election.specs.Listing.{output}
 use Rattle.election.specs.Schedule.{End, schedule}
 use Rattle.election.specs.System.{station, delay, sentBy, underway}
 use Rattle.election.specs.declared.System.{System}
 
+-- what is looked at: all that is printed; or something in the last system, with the refusal before it
+pub data View : Type 0 where
+  Printed : View
+  InLast : (System → List ℕ) → View
+
+abbrev pub viewed : View → List ℕ → List ℕ
+viewed Printed bytes = output bytes
+viewed (InLast f) bytes = let e : End = schedule bytes in e .refusal ∷ f (e .system)
+
 pub record Row : Type 0 where
   pub bytes : List ℕ
-  pub view : List ℕ → List ℕ
+  pub view : View
   pub seen : List ℕ
 
 -- every row of a table is seen as it stands there
 abbrev pub Hold : List Row → Type 0
 Hold [] = Unit {0}
-Hold (r ∷ rows) = (r .view (r .bytes) ≡ r .seen) × Hold rows
-
--- what is looked at in the last system, with the refusal before it
-abbrev pub inLast : (System → List ℕ) → List ℕ → List ℕ
-inLast f bytes = let e : End = schedule bytes in e .refusal ∷ f (e .system)
+Hold (r ∷ rows) = (viewed (r .view) (r .bytes) ≡ r .seen) × Hold rows
 
 -- whom the stations trust, from 1 to n
 abbrev pub leaders : System → List ℕ
