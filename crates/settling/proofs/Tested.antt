@@ -15,12 +15,14 @@ use Rattle.lists.proofs.Bools.{both, four, either}
 use Rattle.lists.proofs.Test.{all-at}
 use Rattle.station.specs.Order.{before}
 use Rattle.election.specs.Commands.{Command, SetUp, Start, Crash, Link, Run, Lose, Report, decode}
-use Rattle.election.specs.Schedule.{End, schedule}
+use Rattle.election.specs.Schedule.{End, mostBytes, schedule}
 use Rattle.settling.specs.Settling.{First, befores, dividedTicks, Permitted, LosesNone, Each, Sent, Arriving, Quiet, bound}
 use Rattle.election.specs.History.{accepted, after, commands, starts, isUp}
 use Rattle.election.specs.System.{station, delay, underway}
 use Rattle.election.specs.Tick.{sending}
 use Rattle.election.specs.declared.System.{System}
+use Rattle.election.proofs.Ruled.{byRules}
+use Rattle.election.proofs.Tables.{schedule-ruled}
 
 -- a test of every entry of a list
 unfoldable pub every : {A : Type 0} → (A → Bool) → List A → Bool
@@ -170,13 +172,13 @@ pub record Found : Type 0 where
   pub divided : ℕ
   pub bound : ℕ
 
-unfoldable pub found : List ℕ → List (List ℕ) → ℕ → ℕ → Found
-found bytes stretch d L =
-    let end : End = schedule bytes in
+-- from the end of a schedule with these commands
+unfoldable pub found : End → List Command → List (List ℕ) → ℕ → ℕ → Found
+found end cs stretch d L =
     let systems : List System = befores stretch (end .system) in
     record {
       refusal = end .refusal;
-      first = firstTest (end .system .n) (commands bytes) L;
+      first = firstTest (end .system .n) cs L;
       permitted = eachTest (λ c x. permittedTest c) stretch (end .system);
       none-lost = eachTest losesNoneTest stretch (end .system);
       none-cut = every (sentTest (λ x. not (eqb x 0))) systems;
@@ -201,9 +203,10 @@ pub record Says (bytes : List ℕ) (stretch : List (List ℕ)) (d L : ℕ) (y : 
   pub bounded : bound d (schedule bytes .system) ≡ y .bound
   pub passed : y .bound < y .divided → bound d (schedule bytes .system) < dividedTicks L (befores stretch (schedule bytes .system))
 
-pub says : (bytes : List ℕ) (stretch : List (List ℕ)) (d L : ℕ) (y : Found) → found bytes stretch d L ≡ y → Says bytes stretch d L y
+pub says : (bytes : List ℕ) (stretch : List (List ℕ)) (d L : ℕ) (y : Found) → ltb mostBytes (length bytes) ≡ false → found (byRules bytes .end) (commands bytes) stretch d L ≡ y → Says bytes stretch d L y
 unfolding found
-says bytes stretch d L y e =
+says bytes stretch d L y fits same =
+    let e : found (schedule bytes) (commands bytes) stretch d L ≡ y = ap (λ (x : End). found x (commands bytes) stretch d L) (schedule-ruled bytes fits) ∙ same in
     let begin : System = schedule bytes .system in
     let all : List System = befores stretch begin in
     let divided : dividedTicks L all ≡ y .divided = ap (λ (x : Found). x .divided) e in
