@@ -40,6 +40,9 @@ module _ (s : System) (bytes : List ℕ) (e : sound s ≡ true) where
   unfolding command refusal after
   rules-system = rw e
 
+  pub rules-performs : ruling s bytes ≡ 0 → command s bytes .system ≡ perform (decode bytes) s
+  rules-performs t = rules-system ∙ after-yes s bytes (eq-eqb _ _ t)
+
   pub rules-length : ruling s bytes ≡ 0 → command s bytes .length ≡ 1 + operands (decode bytes)
   unfolding command refusal
   rules-length t = rw (e, t)
@@ -72,7 +75,7 @@ followed (suc fuel) s at (b ∷ bytes) h e = go (ℕ-discrete (command s (b ∷ 
     go (no ne) rest = absurd (ne (sym (follow-no fuel s at b bytes ne) ∙ e))
     go (yes t) rest =
         let t′ : ruling s (b ∷ bytes) ≡ 0 = sym (rules-refusal s (b ∷ bytes) h) ∙ t in
-        let y : command s (b ∷ bytes) .system ≡ perform (decode (b ∷ bytes)) s = rules-system s (b ∷ bytes) h ∙ after-yes s (b ∷ bytes) (eq-eqb _ _ t′) in
+        let y : command s (b ∷ bytes) .system ≡ perform (decode (b ∷ bytes)) s = rules-performs s (b ∷ bytes) h t′ in
         let l : command s (b ∷ bytes) .length ≡ 1 + operands (decode (b ∷ bytes)) = rules-length s (b ∷ bytes) h t′ in
         let ok : firstFailed (tests s (decode (b ∷ bytes))) ≡ 0 = ruling-tests s (b ∷ bytes) t′ in
         let eq : follow (suc fuel) s at (b ∷ bytes) ≡ follow fuel (perform (decode (b ∷ bytes)) s) (at + (1 + operands (decode (b ∷ bytes)))) (drop (1 + operands (decode (b ∷ bytes))) (b ∷ bytes)) =

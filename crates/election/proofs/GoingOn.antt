@@ -17,7 +17,7 @@ use Rattle.election.specs.Schedule.{End, follow, mostBytes, schedule}
 use Rattle.election.specs.Sound.{sound}
 use Rattle.election.specs.System.{fresh}
 use Rattle.election.specs.declared.System.{System}
-use Rattle.election.proofs.Follow.{follow-yes, follow-stops}
+use Rattle.election.proofs.Follow.{follow-yes, follow-stops, reports-yes, reports-stops}
 use Rattle.election.proofs.FromOffset.{Walks, command-inside, from-end, from-refused, from-accepted}
 use Rattle.election.proofs.KeepsSound.{keeps-sound}
 
@@ -137,8 +137,8 @@ reports-walks =
     record {
       spent = λ s at bytes. refl;
       ended = λ fuel s at. refl;
-      refused = λ fuel s at b bytes ne. rw (ne-eqb (command s (b ∷ bytes) .refusal) 0 ne, reports);
-      accepted = λ fuel s at b bytes t. rw (eq-eqb (command s (b ∷ bytes) .refusal) 0 t, reports);
+      refused = λ fuel s at. reports-stops fuel s;
+      accepted = λ fuel s at. reports-yes fuel s;
     }
 
 module _ (s : System) (at : ℕ) (bytes : List ℕ) where

@@ -18,8 +18,8 @@ use Rattle.election.specs.Sound.{sound}
 use Rattle.election.specs.System.{fresh}
 use Rattle.election.specs.declared.System.{System}
 use Rattle.election.proofs.Computed.{errors-ruled, prints-ruled, spelled-out, rehearsals-ruled}
-use Rattle.election.proofs.Follow.{follow-yes, follow-stops}
-use Rattle.election.proofs.Followed.{after-yes, rules-refusal, rules-system, rules-length}
+use Rattle.election.proofs.Follow.{follow-yes, follow-stops, reports-yes, reports-stops}
+use Rattle.election.proofs.Followed.{rules-refusal, rules-performs, rules-length}
 use Rattle.election.proofs.InitialSound.{fresh-sound}
 use Rattle.election.proofs.KeepsSound.{keeps-sound}
 use Rattle.election.proofs.Ruled.{Ruled, ruled, byRules, ruledView, HoldRuled}
@@ -41,15 +41,6 @@ module _ (fuel : ℕ) (s : System) (at b : ℕ) (bytes : List ℕ) where
   unfolding ruled
   ruled-no ne = rw (ne-eqb (ruling s (b ∷ bytes)) 0 ne, ruled)
 
-  reports-yes : command s (b ∷ bytes) .refusal ≡ 0
-      → reports (suc fuel) s (b ∷ bytes) ≡ reported s (b ∷ bytes) ++ reports fuel (command s (b ∷ bytes) .system) (drop (command s (b ∷ bytes) .length) (b ∷ bytes))
-  unfolding reports
-  reports-yes t = rw (eq-eqb (command s (b ∷ bytes) .refusal) 0 t, reports)
-
-  reports-no : command s (b ∷ bytes) .refusal ≢ 0 → reports (suc fuel) s (b ∷ bytes) ≡ []
-  unfolding reports
-  reports-no ne = rw (ne-eqb (command s (b ∷ bytes) .refusal) 0 ne, reports)
-
 -- it is what the schedule gives
 abbrev Same : ℕ → System → ℕ → List ℕ → Type 0
 Same fuel s at bytes = (follow fuel s at bytes ≡ ruled fuel s at bytes .end) × (reports fuel s bytes ≡ ruled fuel s at bytes .listed)
@@ -65,17 +56,17 @@ same (suc fuel) s at (b ∷ bytes) h = go (ℕ-discrete (ruling s (b ∷ bytes))
         let o : ℕ = 1 + operands (decode (b ∷ bytes)) in
         let x : System = perform (decode (b ∷ bytes)) s in
         let t′ : command s (b ∷ bytes) .refusal ≡ 0 = rules-refusal s (b ∷ bytes) h ∙ t in
-        let y : command s (b ∷ bytes) .system ≡ x = rules-system s (b ∷ bytes) h ∙ after-yes s (b ∷ bytes) (eq-eqb _ _ t) in
+        let y : command s (b ∷ bytes) .system ≡ x = rules-performs s (b ∷ bytes) h t in
         let l : command s (b ∷ bytes) .length ≡ o = rules-length s (b ∷ bytes) h t in
         let (a, r) = later x (at + o) (drop o (b ∷ bytes)) (ap sound (sym y) ∙ keeps-sound s (b ∷ bytes) h) in (
           follow-yes fuel s at b bytes t′ ∙ cc (y, l, a, ruled-yes fuel s at b bytes t),
-          reports-yes fuel s at b bytes t′ ∙ cc (y, l, r, ruled-yes fuel s at b bytes t),
+          reports-yes fuel s b bytes t′ ∙ cc (y, l, r, ruled-yes fuel s at b bytes t),
         )
     go (no ne) later =
         let e : command s (b ∷ bytes) .refusal ≡ ruling s (b ∷ bytes) = rules-refusal s (b ∷ bytes) h in
         let ne′ : command s (b ∷ bytes) .refusal ≢ 0 = λ z. ne (sym e ∙ z) in (
           follow-stops fuel s at b bytes ne′ ∙ ap (λ k. record { refusal = k; offset = at; system = s }) e ∙ sym (ap (λ (z : Ruled). z .end) (ruled-no fuel s at b bytes ne)),
-          reports-no fuel s at b bytes ne′ ∙ sym (ap (λ (z : Ruled). z .listed) (ruled-no fuel s at b bytes ne)),
+          reports-stops fuel s b bytes ne′ ∙ sym (ap (λ (z : Ruled). z .listed) (ruled-no fuel s at b bytes ne)),
         )
 
 -- a schedule that is not too long

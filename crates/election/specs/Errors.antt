@@ -100,6 +100,7 @@ darkPrinted = text "tick 0\n" ++ text "1 down leader - inc 0 rec - sent 0 kept 1
 abbrev pub DarkTwice : Type 0
 DarkTwice = output (setUp 2 16 ++ report ++ report) ≡ darkPrinted ++ darkPrinted ++ text "end 5\n"
 
+-- decimals, from one digit to twenty
 abbrev pub Decimals : Type 0
 Decimals = map decimal (0 ∷ 9 ∷ 10 ∷ 4095 ∷ 7000000 ∷ 12345678901234567890 ∷ []) ≡ map text ("0" ∷ "9" ∷ "10" ∷ "4095" ∷ "7000000" ∷ "12345678901234567890" ∷ [])
 

@@ -16,7 +16,7 @@ use Rattle.lists.proofs.Test.{all-at}
 use Rattle.station.specs.Order.{before}
 use Rattle.election.specs.Commands.{Command, SetUp, Start, Crash, Link, Run, Lose, Report, decode}
 use Rattle.election.specs.Schedule.{End, mostBytes, schedule}
-use Rattle.settling.specs.Settling.{First, befores, dividedTicks, Permitted, LosesNone, Each, Sent, Arriving, Quiet, bound}
+use Rattle.settling.specs.Settling.{First, befores, dividedTicks, Permitted, LosesNone, Each, Sent, Only, NoneLost, NoneCut, NoneSentLate, Arriving, Quiet, bound}
 use Rattle.election.specs.History.{accepted, after, commands, starts, isUp}
 use Rattle.election.specs.System.{station, delay, underway}
 use Rattle.election.specs.Tick.{sending}
@@ -193,11 +193,11 @@ found end cs stretch d L =
 pub record Says (bytes : List ℕ) (stretch : List (List ℕ)) (d L : ℕ) (y : Found) : Type 0 where
   pub accepted : schedule bytes .refusal ≡ y .refusal
   pub first : y .first ≡ true → First (schedule bytes .system .n) (commands bytes) L
-  pub permitted : y .permitted ≡ true → Each (λ c x. Permitted c) stretch (schedule bytes .system)
-  pub none-lost : y .none-lost ≡ true → Each LosesNone stretch (schedule bytes .system)
-  pub none-cut : y .none-cut ≡ true → All (Sent (λ x. x ≢ 0)) (befores stretch (schedule bytes .system))
+  pub permitted : y .permitted ≡ true → Only stretch (schedule bytes .system)
+  pub none-lost : y .none-lost ≡ true → NoneLost stretch (schedule bytes .system)
+  pub none-cut : y .none-cut ≡ true → NoneCut stretch (schedule bytes .system)
   pub arriving : y .arriving ≡ true → Arriving d (schedule bytes .system)
-  pub within : y .within ≡ true → All (Sent (λ x. x ≤ d)) (befores stretch (schedule bytes .system))
+  pub within : y .within ≡ true → NoneSentLate d stretch (schedule bytes .system)
   pub all-ticks : length (befores stretch (schedule bytes .system)) ≡ y .all-ticks
   pub divided : dividedTicks L (befores stretch (schedule bytes .system)) ≡ y .divided
   pub bounded : bound d (schedule bytes .system) ≡ y .bound

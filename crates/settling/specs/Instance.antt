@@ -1,16 +1,14 @@
 -- Demand 3 computed: one instance that meets every condition, each no better than it has to be, and for each condition one that
 -- misses it alone and passes the bound.
 use mathlib.Core.Path.{_≡_}
-use mathlib.Core.Logic.{_≢_}
 use mathlib.Core.List.{List, [], _∷_, _++_, map}
 use mathlib.Core.Bool.{true, false}
-use Prim.Native.Nat.{ℕ, _+_, _<_, _≤_}
+use Prim.Native.Nat.{ℕ, _+_, _<_}
 use lib.ListN.{length, take}
-use Rattle.lists.specs.Every.{All}
 use Rattle.election.specs.Commands.{ruling}
 use Rattle.election.specs.Rows.{setUp, start, crash, link, run, lose, report, started, at20}
 use Rattle.election.specs.Schedule.{schedule}
-use Rattle.settling.specs.Settling.{First, befores, dividedTicks, Permitted, LosesNone, Each, Sent, Arriving, Quiet, upHeads, bound, given}
+use Rattle.settling.specs.Settling.{First, befores, dividedTicks, Only, NoneLost, NoneCut, NoneSentLate, Arriving, Quiet, upHeads, bound, given}
 use Rattle.election.specs.History.{commands, starts}
 use Rattle.election.specs.System.{station, sentBy, underway}
 use Rattle.election.specs.declared.Message.{Message}
@@ -59,20 +57,6 @@ pub record Instance : Type 0 where
   pub sent-slowly : sentBy (given stretch begin) 3 ≡ sentBy begin 3 + 4
   -- the start in the stretch is refused
   pub refused : ruling (given (take 7 stretch) begin) (start 2) ≡ 8
-
--- the conditions on a stretch, one by one: nothing but runs, links, losses, reports and refusals; no message between up heads lost;
--- none cut; none under way to an up head late; none sent late
-abbrev pub Only : List (List ℕ) → System → Type 0
-Only es s = Each (λ c x. Permitted c) es s
-
-abbrev pub NoneLost : List (List ℕ) → System → Type 0
-NoneLost es s = Each LosesNone es s
-
-abbrev pub NoneCut : List (List ℕ) → System → Type 0
-NoneCut es s = All (Sent (λ x. x ≢ 0)) (befores es s)
-
-abbrev pub NoneSentLate : ℕ → List (List ℕ) → System → Type 0
-NoneSentLate d es s = All (Sent (λ x. x ≤ d)) (befores es s)
 
 -- after an accepted schedule some of the conditions hold, and the divided ticks pass the bound
 pub record Passes (bytes : List ℕ) (stretch : List (List ℕ)) (d L : ℕ) (Conditions : System → Type 0) : Type 0 where

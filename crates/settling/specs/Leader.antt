@@ -7,8 +7,10 @@ use Rattle.election.specs.Commands.{Command}
 use Rattle.election.specs.History.{isUp}
 use Rattle.settling.specs.Settling.{First}
 
+-- whenever a head is up there is one
 abbrev pub LeaderExists : Type 0
 LeaderExists = (n : ℕ) (cs : List Command) (p : ℕ) → 1 ≤ p → p ≤ n → isUp false p cs ≡ true → (L : ℕ) × First n cs L
 
+-- and there are no two
 abbrev pub OneLeader : Type 0
 OneLeader = (n : ℕ) (cs : List Command) (L K : ℕ) → First n cs L → First n cs K → L ≡ K

@@ -90,14 +90,30 @@ abbrev pub Arriving : ℕ → System → Type 0
 Arriving d s =
     (p q : ℕ) → 1 ≤ p → p ≤ s .n → 1 ≤ q → q ≤ s .n → p ≢ q → station s q .up ≡ true → All (λ (m : Message). m .due ≤ s .tick + d) (underway s p q)
 
+-- the conditions on a stretch: nothing but runs, links, losses, reports and refusals
+abbrev pub Only : List (List ℕ) → System → Type 0
+Only es s = Each (λ c x. Permitted c) es s
+
+-- no message between up heads is lost
+abbrev pub NoneLost : List (List ℕ) → System → Type 0
+NoneLost es s = Each LosesNone es s
+
+-- none that is sent to an up head is cut
+abbrev pub NoneCut : List (List ℕ) → System → Type 0
+NoneCut es s = All (Sent (λ x. x ≢ 0)) (befores es s)
+
+-- none that is sent to an up head needs more than d ticks
+abbrev pub NoneSentLate : ℕ → List (List ℕ) → System → Type 0
+NoneSentLate d es s = All (Sent (λ x. x ≤ d)) (befores es s)
+
 -- what demand 3 asks of a stretch: nothing but runs, links, losses, reports and refusals; no message between up heads lost or cut;
 -- each message to an up head, under way or sent later, needs at most d more ticks
 pub record Quiet (d : ℕ) (es : List (List ℕ)) (s : System) : Type 0 where
-  pub permitted : Each (λ c x. Permitted c) es s
-  pub none-lost : Each LosesNone es s
-  pub none-cut : All (Sent (λ x. x ≢ 0)) (befores es s)
+  pub permitted : Only es s
+  pub none-lost : NoneLost es s
+  pub none-cut : NoneCut es s
   pub arriving : Arriving d s
-  pub within : All (Sent (λ x. x ≤ d)) (befores es s)
+  pub within : NoneSentLate d es s
 
 -- W: the longest start-up wait left
 unfoldable pub longestWait : System → ℕ
