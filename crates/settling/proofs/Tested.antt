@@ -1,19 +1,19 @@
 -- The conditions of demand 3 as tests, so that they can be computed for a given schedule and stretch.
 use mathlib.Core.Path.{_≡_, refl, sym, ap, _∙_}
-use mathlib.Core.Logic.{_≢_, _⊎_}
-use mathlib.Core.Logic._⊎_.{inl, inr}
+use mathlib.Core.Logic.{_≢_}
 use mathlib.Core.List.{List, [], _∷_}
 use mathlib.Core.Bool.{Bool, true, false, not, _&&_, _||_, true≢false}
 use Prim.Native.Nat.{ℕ, _+_, _-_, _<_, _≤_}
 use native.Mathlib.Omega.{arith}
 use lib.Dec.{leb, ltb, eqb}
 use lib.ListN.{length}
-use borrow.Author.Tests.{ltb-true, leb-true, eqb-true, eqb-false, eq-eqb, ne-eqb, not-true}
+use borrow.Author.Tests.{leb-true, eqb-false, eq-eqb, ne-eqb, not-true}
 use Rattle.lists.specs.Every.{All}
 use Rattle.lists.specs.Test.{allTo}
-use Rattle.lists.proofs.Bools.{both, four, either}
+use Rattle.lists.proofs.Bools.{both, four}
 use Rattle.lists.proofs.Test.{all-at}
 use Rattle.station.specs.Order.{before}
+use Rattle.station.proofs.Ordered.{lexicographic-holds}
 use Rattle.election.specs.Commands.{Command, SetUp, Start, Crash, Link, Run, Lose, Report, decode}
 use Rattle.election.specs.Schedule.{End, mostBytes, schedule}
 use Rattle.settling.specs.Settling.{First, befores, dividedTicks, Permitted, LosesNone, Each, Sent, Only, NoneLost, NoneCut, NoneSentLate, Arriving, Quiet, bound}
@@ -136,14 +136,6 @@ losesNone-of Report s e = tt
 unfoldable pub firstTest : ℕ → List Command → ℕ → Bool
 firstTest n cs L = leb 1 L && leb L n && isUp false L cs && pairs n (λ p q. implies (eqb q L) (implies (isUp false p cs) (before (starts L cs) L (starts p cs) p)))
 
-before-of : (c p d q : ℕ) → before c p d q ≡ true → (c < d) ⊎ ((c ≡ d) × (p < q))
-unfolding before
-before-of c p d q e = go (either (ltb c d) (eqb c d && ltb p q) e)
-  where
-    go : (ltb c d ≡ true) ⊎ ((eqb c d && ltb p q) ≡ true) → (c < d) ⊎ ((c ≡ d) × (p < q))
-    go (inl a) = inl (ltb-true c d a)
-    go (inr b) = let (x, y) = both (eqb c d) (ltb p q) b in inr (eqb-true c d x, ltb-true p q y)
-
 first-of : (n : ℕ) (cs : List Command) (L : ℕ) → firstTest n cs L ≡ true → First n cs L
 unfolding firstTest
 first-of n cs L e =
@@ -155,7 +147,7 @@ first-of n cs L e =
       high = high;
       is-up = up;
       fewest = λ p lp hp u ne.
-          before-of (starts L cs) L (starts p cs) p
+          lexicographic-holds (starts L cs) L (starts p cs) p .0
           (implied (isUp false p cs) _ (implied (eqb L L) _ (pairs-at n _ all p L lp hp low high ne) (eq-eqb L L refl)) u);
     }
 
