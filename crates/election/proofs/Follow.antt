@@ -1,8 +1,9 @@
--- One command of a schedule, accepted and refused.
+-- One command of a schedule, accepted and refused; and what holds of each command's refusal.
 use mathlib.Core.Path.{_≡_, ap}
 use mathlib.Core.Logic.{_≢_}
 use mathlib.Core.List.{List, [], _∷_, _++_}
-use Prim.Native.Nat.{ℕ, suc, _+_}
+use Prim.Native.Nat.{ℕ, zero, suc, _+_}
+use native.Mathlib.Decide.{ℕ-discrete}
 use lib.ListN.{drop}
 use borrow.Author.Tests.{eq-eqb, ne-eqb}
 use Rattle.election.specs.Commands.{command}
@@ -21,6 +22,21 @@ module _ (fuel : ℕ) (s : System) (at b : ℕ) (bytes : List ℕ) where
 
   pub follow-no : command s (b ∷ bytes) .refusal ≢ 0 → follow (suc fuel) s at (b ∷ bytes) .refusal ≡ command s (b ∷ bytes) .refusal
   follow-no ne = ap (λ (e : End). e .refusal) (follow-stops ne)
+
+-- what holds of 0 and of each command's refusal holds of the schedule's: of a command whose system and bytes meet a condition that every
+-- accepted command keeps
+module _ (P : ℕ → Type 0) (Meets : System → List ℕ → Type 0) (none : P 0)
+    (each : (s : System) (bytes : List ℕ) → Meets s bytes → P (command s bytes .refusal))
+    (keeps : (s : System) (bytes : List ℕ) → Meets s bytes → command s bytes .refusal ≡ 0 → Meets (command s bytes .system) (drop (command s bytes .length) bytes)) where
+  pub follow-refusal : (fuel : ℕ) (s : System) (at : ℕ) (bytes : List ℕ) → Meets s bytes → P (follow fuel s at bytes .refusal)
+  unfolding follow
+  follow-refusal zero s at bytes m = none
+  follow-refusal (suc fuel) s at [] m = none
+  follow-refusal (suc fuel) s at (b ∷ bytes) m = go (ℕ-discrete (command s (b ∷ bytes) .refusal) 0) (follow-refusal fuel)
+    where
+      go : Dec (command s (b ∷ bytes) .refusal ≡ 0) → ((x : System) (to : ℕ) (rest : List ℕ) → Meets x rest → P (follow fuel x to rest .refusal)) → P (follow (suc fuel) s at (b ∷ bytes) .refusal)
+      go (yes t) rest = rw (follow-yes fuel s at b bytes t) (rest _ _ _ (keeps s (b ∷ bytes) m t))
+      go (no ne) rest = rw (follow-no fuel s at b bytes ne) (each s (b ∷ bytes) m)
 
 -- what it lists
 module _ (fuel : ℕ) (s : System) (b : ℕ) (bytes : List ℕ) where

@@ -1,5 +1,7 @@
 -- Laws of what holds of every entry.
 use mathlib.Core.List.{List, [], _∷_, _++_}
+use Prim.Native.Nat.{ℕ, zero, suc}
+use lib.ListN.{drop, getD}
 use Rattle.lists.specs.Every.{All}
 
 module _ {A : Type 0} where
@@ -27,3 +29,14 @@ module _ {A : Type 0} where
   pub all-both : (P Q R : A → Type 0) → ((x : A) → P x → Q x → R x) → (xs : List A) → All P xs → All Q xs → All R xs
   all-both P Q R f [] h k = tt
   all-both P Q R f (x ∷ xs) h k = (f x (h .0) (k .0), all-both P Q R f xs (h .1) (k .1))
+
+  pub all-drop : (P : A → Type 0) (k : ℕ) (xs : List A) → All P xs → All P (drop k xs)
+  all-drop P zero xs h = h
+  all-drop P (suc k) [] h = h
+  all-drop P (suc k) (x ∷ xs) h = all-drop P k xs (h .1)
+
+  -- past the end it holds of what stands there
+  pub all-get : (P : A → Type 0) (xs : List A) (k : ℕ) (d : A) → P d → All P xs → P (getD xs k d)
+  all-get P [] k d past h = past
+  all-get P (x ∷ xs) zero d past h = h .0
+  all-get P (x ∷ xs) (suc k) d past h = all-get P xs k d past (h .1)
