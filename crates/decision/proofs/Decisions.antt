@@ -16,7 +16,7 @@ use Rattle.election.specs.Sound.{sound}
 use Rattle.election.specs.Commands.{Command, decode, operands, tests, ruling, refusal, perform, command, numberOf}
 use Rattle.election.specs.System.{noStation}
 use Rattle.election.specs.declared.Refusal.{Refusal}
-use Rattle.election.specs.declared.Refusal.the-variants.{UnknownCommand, MissingOperand, NotSetUp, SetUpTwice, StationsRange, PeriodRange, StationRange, StationUp, StationDown, WornOut, SameStation, DelayRange, NoTicks, PastLastTick, Unsound, BufferShort, ScheduleLong}
+use Rattle.election.specs.declared.Refusal.the-variants.{UnknownCommand, MissingOperand, NotSetUp, SetUpTwice, StationsRange, PeriodRange, StationRange, StationUp, StationDown, WornOut, SameStation, NoTicks, PastLastTick, Unsound, BufferShort, ScheduleLong}
 use Rattle.election.specs.declared.System.{System}
 use Rattle.decision.specs.Decided.{Turned, Taken, Sees, decided, meaning}
 use Rattle.decision.specs.declared.Decision.{Decision}
@@ -44,7 +44,6 @@ numbered StationUp e = absurd (omega (arith, e))
 numbered StationDown e = absurd (omega (arith, e))
 numbered WornOut e = absurd (omega (arith, e))
 numbered SameStation e = absurd (omega (arith, e))
-numbered DelayRange e = absurd (omega (arith, e))
 numbered NoTicks e = absurd (omega (arith, e))
 numbered PastLastTick e = absurd (omega (arith, e))
 numbered Unsound e = absurd (omega (arith, e))

@@ -13,7 +13,6 @@ ghost use Rattle.election.specs.declared.System.{System};
 ghost use Rattle.decision.specs.Decided.{Sees, decided, meaning};
 use crate::widths::width;
 use election::Refusal;
-use fit::LONGEST_DELAY;
 use station::Station;
 
 pub mod widths;
@@ -98,7 +97,7 @@ fn crash(ready: bool, n: u8, x: Station, p: u8) -> Decision
     Decision::Crash(p)
 }
 
-// A link gets a delay of at most the longest.
+// A link gets a delay; every byte is one.
 fn link(ready: bool, n: u8, from: u8, to: u8, delay: u8) -> Decision
     ensures { λ r. ⌜ ((s : System) → s .ready ≡ ready → s .n ≡ n → meaning r ≡ decided (firstFailed (tests s (Link from to delay))) (Link from to delay)) ⌝ }
 {
@@ -111,10 +110,7 @@ fn link(ready: bool, n: u8, from: u8, to: u8, delay: u8) -> Decision
     if from == to {
         return Decision::Refused(Refusal::SameStation);
     }
-    match delay {
-        0..=LONGEST_DELAY => Decision::Link { from, to, delay },
-        _ => Decision::Refused(Refusal::DelayRange),
-    }
+    Decision::Link { from, to, delay }
 }
 
 // The tick that a run leads to.

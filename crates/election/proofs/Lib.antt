@@ -16,13 +16,14 @@ pub mod Underway
 pub mod Order
 pub mod OrderLinks
 pub mod Idle
--- Commands keep soundness; 15 is never met
+-- Commands keep soundness
 pub mod Accepting
 pub mod Changes
 pub mod KeepsSound
-pub mod NeverUnsound
--- A schedule, command by command: its end, its start counts, the bytes that matter, going on with it
+-- A schedule, command by command: 15 is never met, and 12 by no bytes; its end, its start counts, the bytes that matter, going on with it
 pub mod Follow
+pub mod NeverUnsound
+pub mod NoTwelve
 pub mod Followed
 pub mod Counts
 pub mod FromOffset

@@ -1,4 +1,4 @@
--- A tick of a sound system leaves a sound one, and no link carries more than four messages.
+-- A tick of a sound system leaves a sound one, and no link carries more messages than it has places.
 use mathlib.Core.Path.{_≡_, refl, sym, _∙_}
 use mathlib.Core.Logic.{_≢_}
 use mathlib.Core.List.{[], _∷_, _++_, append-nil}

@@ -25,18 +25,18 @@ message sent due = counting sent due 1 0
 abbrev pub sounds : System → List System
 sounds s =
     s
-    -- sent at the latest chance, due 64 ticks later, with the largest count
-    ∷ withLink 1 2 (holding (counting 33 97 4095 0 ∷ [])) s
+    -- sent at the latest chance, due 255 ticks later, with the largest count
+    ∷ withLink 1 2 (holding (counting 33 288 4095 0 ∷ [])) s
     -- two sendings a period apart
     ∷ withLink 1 2 (holding (message 17 35 ∷ message 33 35 ∷ [])) s
     ∷ []
 
 abbrev pub breaches : System → List System
 breaches s =
-    -- sent after the tick; due in it; due more than 64 ticks after the sending
+    -- sent after the tick; due in it; due more than 255 ticks after the sending
     withLink 2 1 (holding (message 35 36 ∷ [])) s
     ∷ withLink 1 2 (holding (message 33 34 ∷ [])) s
-    ∷ withLink 1 2 (holding (message 33 98 ∷ [])) s
+    ∷ withLink 1 2 (holding (message 33 289 ∷ [])) s
     -- a count above 4095; a count beyond the stations
     ∷ withLink 1 2 (holding (counting 33 35 4096 0 ∷ [])) s
     ∷ withLink 1 2 (holding (counting 33 35 1 1 ∷ [])) s
@@ -46,7 +46,7 @@ breaches s =
     ∷ withLink 1 2 (holding (message 18 35 ∷ message 33 35 ∷ [])) s
     ∷ withLink 1 2 (holding (message 33 35 ∷ message 17 35 ∷ [])) s
     -- an unused place that is not zero; a link of a station to itself
-    ∷ withLink 1 2 (record { used = 0; messages = message 33 35 ∷ replicate 3 unused }) s
+    ∷ withLink 1 2 (record { used = 0; messages = message 33 35 ∷ replicate 15 unused }) s
     ∷ withLink 1 1 (holding (message 33 35 ∷ [])) s
     ∷ []
 

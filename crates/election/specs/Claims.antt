@@ -5,6 +5,7 @@ use mathlib.Core.List.{List}
 use mathlib.Core.Bool.{true, false}
 use Prim.Native.Nat.{ℕ, _<_, _≤_}
 use lib.ListN.{length}
+use Rattle.lists.specs.Every.{All}
 use Rattle.station.specs.Limits.{lastTick}
 use Rattle.election.specs.Commands.{command}
 use Rattle.election.specs.Schedule.{schedule}
@@ -36,6 +37,12 @@ RefusedChangesNothing =
 -- a schedule never meets an unsound system
 abbrev pub NeverUnsound : Type 0
 NeverUnsound = (bytes : List ℕ) → schedule bytes .refusal ≢ 15
+
+-- no byte is too long a delay: refusal 12 never occurs
+abbrev pub NoTwelve : Type 0
+NoTwelve =
+    ((s : System) (bytes : List ℕ) → All (λ b. b < 256) bytes → command s bytes .refusal ≢ 12)
+    × ((bytes : List ℕ) → All (λ b. b < 256) bytes → schedule bytes .refusal ≢ 12)
 
 -- accepted, a schedule answers its length
 abbrev pub AcceptedWhole : Type 0

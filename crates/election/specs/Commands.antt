@@ -15,7 +15,7 @@ use Rattle.election.specs.declared.Answer.{Answer}
 use Rattle.election.specs.declared.Answer.the-variants.{Done, Refused}
 use Rattle.election.specs.declared.Commanded.{Commanded}
 use Rattle.election.specs.declared.Refusal.{Refusal}
-use Rattle.election.specs.declared.Refusal.the-variants.{UnknownCommand, MissingOperand, NotSetUp, SetUpTwice, StationsRange, PeriodRange, StationRange, StationUp, StationDown, WornOut, SameStation, DelayRange, NoTicks, PastLastTick, Unsound, BufferShort, ScheduleLong}
+use Rattle.election.specs.declared.Refusal.the-variants.{UnknownCommand, MissingOperand, NotSetUp, SetUpTwice, StationsRange, PeriodRange, StationRange, StationUp, StationDown, WornOut, SameStation, NoTicks, PastLastTick, Unsound, BufferShort, ScheduleLong}
 use Rattle.election.specs.declared.System.{System}
 
 -- a command with its operands
@@ -58,6 +58,7 @@ tests s (SetUp n period) = (not (s .ready), 4) ∷ (within 2 n 8, 5) ∷ (within
 tests s (Start p) =
     (s .ready, 3) ∷ (within 1 p (s .n), 7) ∷ (not (station s p .up), 8) ∷ (ltb (station s p .incarnation) mostStarts, 10) ∷ []
 tests s (Crash p) = (s .ready, 3) ∷ (within 1 p (s .n), 7) ∷ (station s p .up, 9) ∷ []
+-- (the longest delay is the largest byte, so 12 is for lists of numbers that are no bytes: Claims.antt, NoTwelve)
 tests s (Link p q d) =
     (s .ready, 3) ∷ (within 1 p (s .n) && within 1 q (s .n), 7) ∷ (not (eqb p q), 11) ∷ (leb d longestDelay, 12) ∷ []
 tests s (Run t) = (s .ready, 3) ∷ (ltb 0 t, 13) ∷ (leb (s .tick + t) lastTick, 14) ∷ []
@@ -118,7 +119,6 @@ numberOf StationUp = 8
 numberOf StationDown = 9
 numberOf WornOut = 10
 numberOf SameStation = 11
-numberOf DelayRange = 12
 numberOf NoTicks = 13
 numberOf PastLastTick = 14
 numberOf Unsound = 15

@@ -51,6 +51,10 @@ againPrinted =
     ++ text "agreed 2\n"
     ++ text "end 27\n"
 
+-- η 16 and every delay 255, to the tick before the first message is due
+abbrev pub sixteen : List ℕ
+sixteen = setUp 2 16 ++ link 1 2 255 ++ link 2 1 255 ++ start 1 ++ start 2 ++ run 255 ++ run 16
+
 abbrev pub errors : List Row
 errors =
     -- a timer ended before the message of the same tick would raise the timeout to 18
@@ -84,6 +88,10 @@ errors =
     ∷ record { bytes = setUp 2 16 ++ link 1 2 64 ++ link 2 1 64 ++ start 1 ++ start 2 ++ run 34 ++ lose 1 2; view = InLast (carried 1 2); seen = 0 ∷ 0 ∷ 2 ∷ [] }
     -- a delay outlives a crash of its sender
     ∷ record { bytes = started ++ link 1 2 3 ++ crash 1 ++ start 1; view = InLast (delayOf 1 2); seen = 0 ∷ 3 ∷ [] }
+    -- delays from 65 to 255 are taken
+    ∷ record { bytes = started ++ link 1 2 65 ++ link 2 1 255; view = InLast (λ s. delayOf 1 2 s ++ delayOf 2 1 s); seen = 0 ∷ 65 ∷ 255 ∷ [] }
+    -- a link carries sixteen: sent at 17, 33, .. 257, and the first is due at 272
+    ∷ record { bytes = sixteen; view = InLast (carried 1 2); seen = 0 ∷ 16 ∷ 16 ∷ [] }
     ∷ []
 
 -- what is printed: every report, every word, every digit
@@ -129,7 +137,7 @@ untouched ready n period leaders delays =
           leaders;
       sent = replicate 8 0;
       delays = delays;
-      links = replicate 64 (record { used = 0; messages = replicate 4 (record { sent = 0; due = 0; counts = replicate 8 0 }) });
+      links = replicate 64 (record { used = 0; messages = replicate 16 (record { sent = 0; due = 0; counts = replicate 8 0 }) });
     }
 
 -- the empty schedule leaves the fresh system, all zero

@@ -13,7 +13,7 @@ use Rattle.election.specs.declared.System.{System}
 
 -- the places of a link: the most messages on it
 abbrev pub places : ℕ
-places = 4
+places = 16
 
 -- what lies past the end of an array
 abbrev pub noStation : Station

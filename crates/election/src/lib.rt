@@ -10,7 +10,7 @@ pub struct Message {
 }
 
 // How many messages a link has places for.
-pub const PLACES: usize = 4;
+pub const PLACES: usize = 16;
 
 // The messages under way from one station to another, oldest sending first: how many there are, and
 // their places, the used ones first.
@@ -48,7 +48,6 @@ pub enum Refusal {
     StationDown,
     WornOut,
     SameStation,
-    DelayRange,
     NoTicks,
     PastLastTick,
     Unsound,

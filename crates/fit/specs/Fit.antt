@@ -13,7 +13,7 @@ use Rattle.station.specs.declared.Station.{Station}
 
 -- the longest delay of a link
 abbrev pub longestDelay : ℕ
-longestDelay = 64
+longestDelay = 255
 
 -- the longest that two messages of one sender can lie apart and be due in one tick
 abbrev pub flight : ℕ

@@ -13,7 +13,7 @@ use station::rules::precedes;
 use station::rules::timeout_of;
 
 // The longest delay of a link.
-pub const LONGEST_DELAY: u8 = 64;
+pub const LONGEST_DELAY: u8 = 255;
 
 // The longest that two messages of one sender can lie apart and be due in one tick.
 const FLIGHT: u32 = LONGEST_DELAY as u32 - 1;

@@ -19,7 +19,7 @@ use Rattle.election.proofs.Spaced.{Spaced, none, more}
 abbrev pub Adrift : (n period tick : ℕ) → Message → Type 0
 Adrift n period tick m = (sender : Station) → sender .up ≡ false → Posted n period tick sender m
 
--- up to four such messages on a link, sent at least a period apart
+-- such messages on a link, no more than it has places, sent at least a period apart
 pub record Carries (n period tick : ℕ) (ms : List Message) : Type 0 where
   pub few : length ms ≤ places
   pub spaced : (sender : Station) → sender .up ≡ false → Spaced (Posted n period tick sender) period 0 ms

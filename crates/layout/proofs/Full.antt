@@ -46,7 +46,7 @@ zero-unused m size e =
         let z : getD (m .counts) k 0 ≡ 0 = omega arith in
         z ∙ sym (getD-replicate {A = ℕ} 8 k 0 0 l))
 
--- a link of four places, with zeros after its messages
+-- a link with all its places, with zeros after its messages
 holding-is : (l : Link) → length (l .messages) ≡ places → l .used ≤ places → ((x : ℕ) → l .used ≤ x → x < places → messageAt l x ≡ unused) → holding (messages l) ≡ l
 unfolding messages holding
 holding-is l size few rest = λ i. record { used = count i; messages = same i }

@@ -165,7 +165,8 @@ fn link_place(
     ensures { λ r. ⌜ r ≡ linkPlace n period tick p q delay sender l ⌝ }
 {
     if is_link(n, p, q) {
-        (delay <= LONGEST_DELAY) & link_in(n, period, tick, sender, l)
+        // every byte is a delay
+        link_in(n, period, tick, sender, l)
     } else {
         (delay == 0) & (l.used == 0) & empty_places(l)
     }

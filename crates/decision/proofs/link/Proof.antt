@@ -1,7 +1,7 @@
 -- The function link meets its contract.
 use Rattle.lists.proofs.Bools.{holds, fails}
 use Rattle.fit.specs.Fit.{longestDelay}
-use borrow.Author.Tests.{not-true, not-false, le-leb, lt-leb, eq-eqb, ne-eqb}
+use borrow.Author.Tests.{not-true, not-false, le-leb, eq-eqb, ne-eqb}
 use native.Mathlib.Omega.{arith}
 use borrow.Author.Needs.{needs}
 use Rattle.decision.proofs.link.Statement.{statement}
@@ -24,17 +24,10 @@ returns-3 c s e f =
 
 returns-4 : tie.Need-returns-4
 returns-4 c s e f =
-    let a = c .before .before .before .before .before .args in
-    let ready = not-false (a .ready) (c .before .before .before .before .if1 .left) in
-    let inside = holds (c .before .before .before .are-stations .ensures) (c .before .before .if2 .left) in
-    rw (e, f, ready, inside, ne-eqb (a .from) (a .to) (c .before .if3 .left), le-leb (a .delay) longestDelay (omega arith))
-
-returns-5 : tie.Need-returns-5
-returns-5 c s e f =
-    let a = c .before .before .before .before .before .args in
-    let ready = not-false (a .ready) (c .before .before .before .before .if1 .left) in
-    let inside = holds (c .before .before .before .are-stations .ensures) (c .before .before .if2 .left) in
-    rw (e, f, ready, inside, ne-eqb (a .from) (a .to) (c .before .if3 .left), lt-leb (a .delay) longestDelay (omega arith))
+    let a = c .before .before .before .before .args in
+    let ready = not-false (a .ready) (c .before .before .before .if1 .left) in
+    let inside = holds (c .before .before .are-stations .ensures) (c .before .if2 .left) in
+    rw (e, f, ready, inside, ne-eqb (a .from) (a .to) (c .if3 .left), le-leb (a .delay) longestDelay (omega arith))
 
 pub link-spec : {M : Type 1} → statement M
-link-spec = tie.close (tie.spec returns (λ c κs. search needs) returns-2 returns-3 returns-4 returns-5)
+link-spec = tie.close (tie.spec returns (λ c κs. search needs) returns-2 returns-3 returns-4)

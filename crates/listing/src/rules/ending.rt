@@ -25,7 +25,6 @@ pub fn number_of(why: Refusal) -> u8
         Refusal::StationDown => 9,
         Refusal::WornOut => 10,
         Refusal::SameStation => 11,
-        Refusal::DelayRange => 12,
         Refusal::NoTicks => 13,
         Refusal::PastLastTick => 14,
         Refusal::Unsound => 15,

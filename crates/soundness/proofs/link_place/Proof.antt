@@ -1,7 +1,10 @@
 -- The function link_place meets its contract.
 use mathlib.Core.Path.{sym, _∙_}
+use native.Mathlib.Omega.{arith}
+use Rattle.fit.specs.Fit.{longestDelay}
 use Rattle.election.specs.Sound.{emptyPlace}
 use borrow.Author.Needs.{needs}
+use borrow.Author.Tests.{le-leb}
 use Rattle.soundness.proofs.link_place.Statement.{statement}
 use Rattle.soundness.proofs.link_place.Tie as tie
 use Rattle.soundness.proofs.link_place.Reads as reads
@@ -20,7 +23,8 @@ empty-places-requires : tie.Need-empty-places-requires
 empty-places-requires c κs = search needs
 
 returns : tie.Need-returns
-returns c = rw (sym (c .before .before .is-link .ensures) ∙ c .before .if1 .taken) (cc)
+returns c =
+    rw (sym (c .before .before .is-link .ensures) ∙ c .before .if1 .taken, le-leb (c .before .before .before .args .delay) longestDelay (omega arith)) (c .link-in .ensures)
 
 returns-2 : tie.Need-returns-2
 unfolding emptyPlace
