@@ -4,7 +4,7 @@
 #include <stdio.h>
 #include <string.h>
 
-enum { STATIONS = 8, PLACES = 4, MAX_INCARNATION = 4095, MAX_DELAY = 64, MAX_TICK = 1000000, MAX_SCHEDULE = 65536 };
+enum { STATIONS = 8, PLACES = 16, MAX_INCARNATION = 4095, MAX_TICK = 1000000, MAX_SCHEDULE = 65536 };
 enum { SET_UP = 1, START, CRASH, LINK, RUN, LOSE, REPORT };
 
 static const uint8_t operands[] = { // bytes after each command
@@ -295,7 +295,6 @@ static int do_command(const uint8_t *bytes, size_t length) {
     case LOSE:
         if (!is_station(operand[0]) || !is_station(operand[1])) return 7;
         if (operand[0] == operand[1]) return 11;
-        if (command == LINK && operand[2] > MAX_DELAY) return 12;
         if (command == LINK)
             links[operand[0]][operand[1]].delay = operand[2];
         else

@@ -1,4 +1,4 @@
-// Document 01 once more, in plain Rust: reads a schedule from standard input, does its commands tick by tick and
+// Document 01 once more, with document 02's changes, in plain Rust: reads a schedule from standard input, does its commands tick by tick and
 // prints what the rehearsal program must print. Written from the paper alone; tests/compare holds the product to it.
 
 use std::io::{self, BufWriter, Read, Write};
@@ -6,7 +6,8 @@ use std::io::{self, BufWriter, Read, Write};
 const LONGEST_SCHEDULE: usize = 65_536;
 const LAST_TICK: u64 = 1_000_000;
 const LAST_COUNT: u64 = 4095;
-const LONGEST_DELAY: u64 = 64;
+const LONGEST_DELAY: u64 = 255; // paper 1
+const MOST_UNDER_WAY: u64 = 16; // on a link, paper 1
 
 /// A station. `kept_*` is what it keeps through a crash, `up` what it loses: there is none while it is down.
 struct Station {
@@ -229,7 +230,7 @@ impl Desk {
                 good &= later.sent_at >= m.sent_at + eta;
                 on_link += 1;
             }
-            good &= on_link <= 4;
+            good &= on_link <= MOST_UNDER_WAY;
         }
         good
     }
@@ -307,9 +308,6 @@ fn command(state: &mut Option<Desk>, bytes: &[u8]) -> Result<(usize, bool), u64>
                 return Err(11);
             }
             if name == 4 {
-                if operand(3) > LONGEST_DELAY {
-                    return Err(12);
-                }
                 desk.delay[at(from)][at(to)] = operand(3);
             } else {
                 desk.under_way.retain(|m| m.from != from || m.to != to);

@@ -16,6 +16,7 @@ const LOSE: u8 = 6;
 const REPORT: u8 = 7;
 
 const LAST_TICK: u64 = 1_000_000;
+const LONGEST_DELAY: u64 = 255;
 
 /// A schedule under construction, with as much of the state as is needed to know what is accepted.
 struct Plan {
@@ -118,8 +119,9 @@ impl Plan {
         match self.random.range(0, 9) {
             0..=2 => self.random.range(1, 4),
             3 => 0,
-            4..=5 => self.random.pick(&[1, 2, 15, 16, 17, 18, 32, 33, 63, 64]),
-            _ => self.random.range(0, 64),
+            4..=5 => self.random.pick(&[1, 2, 15, 16, 17, 18, 32, 33, 64, 65, 239, 240, 254, 255]),
+            6..=7 => self.random.range(0, 64),
+            _ => self.random.range(0, LONGEST_DELAY),
         }
     }
 
@@ -182,7 +184,7 @@ impl Plan {
             6 => self.eta + self.random.range(0, 3) - 1,
             7 => 2 * self.eta + self.random.range(0, 4) - 2,
             8 => self.random.range(1, 64),
-            _ => self.random.range(1, 200),
+            _ => self.random.range(1, 300),
         };
         self.run(ticks);
     }
@@ -261,10 +263,11 @@ fn slow(p: &mut Plan) {
     let n = p.random.range(2, 5);
     let eta = p.random.range(16, 21);
     p.set_up(n, eta);
+    let low = p.random.pick(&[40, 120, 239, LONGEST_DELAY]);
     for from in 1..=n {
         for to in (1..=n).filter(|&to| to != from) {
             if p.random.percent(80) {
-                let delay = p.random.range(40, 64);
+                let delay = p.random.range(low, LONGEST_DELAY);
                 p.link(from, to, delay);
             }
         }
@@ -305,7 +308,8 @@ fn overtake(p: &mut Plan) {
     let eta = p.random.range(16, 20);
     p.set_up(n, eta);
     let (from, to) = p.link_ends();
-    let long = p.random.range(40, 64);
+    let most = p.random.pick(&[64, LONGEST_DELAY]);
+    let long = p.random.range(40, most);
     p.link(from, to, long);
     p.start_all();
     let aim = p.aim() + 60;
@@ -337,7 +341,8 @@ fn collide(p: &mut Plan) {
     let eta = p.random.range(16, 40);
     p.set_up(n, eta);
     p.report_percent = 60;
-    let meet = p.random.range(10, 60);
+    let most = p.random.pick(&[60, LONGEST_DELAY]);
+    let meet = p.random.range(10, most);
     let mut late: Vec<u64> = (1..=n).map(|_| p.random.range(0, 9)).collect();
     if p.random.percent(50) {
         late.iter_mut().for_each(|l| *l = 0);
@@ -419,7 +424,8 @@ fn restarted(p: &mut Plan) {
     let (sender, leader, hearer) = (three[0], three[1], three[2]);
     p.link(sender, leader, 0);
     p.link(leader, sender, 0);
-    let long = p.random.range(58, 64);
+    let most = p.random.pick(&[64, LONGEST_DELAY]);
+    let long = p.random.range(58, most);
     p.link(sender, hearer, long);
     for _ in 0..p.random.range(1, 3) {
         p.start(hearer);
@@ -448,7 +454,7 @@ fn lose(p: &mut Plan) {
     p.start_all();
     for _ in 0..p.random.range(1, 6) {
         let (from, to) = p.link_ends();
-        let delay = p.random.range(10, 64);
+        let delay = p.random.range(10, LONGEST_DELAY);
         p.link(from, to, delay);
     }
     p.steps([5, 4, 10, 55, 30, 0]);
@@ -495,7 +501,7 @@ fn boundary(p: &mut Plan) {
         let other = if end == 1 { n } else { 1 };
         match p.random.range(0, 7) {
             0..=1 => {
-                let delay = p.random.pick(&[0, 1, 63, 64, 64]);
+                let delay = p.random.pick(&[0, 1, 64, 65, 254, 255, 255]);
                 p.link(end, other, delay);
             }
             2 => {
@@ -613,7 +619,7 @@ fn refusal(p: &mut Plan) {
     let s = if p.n == 0 { 1 } else { p.station() };
     let above = p.n + 1;
     let wrong = p.random.pick(&[0, above, 9, 255]);
-    match p.random.range(1, 13) {
+    match p.random.range(1, 12) {
         1 => {
             let byte = p.random.pick(&[0, 8, 9, 16, 127, 128, 255]);
             p.bytes.push(byte as u8);
@@ -669,11 +675,6 @@ fn refusal(p: &mut Plan) {
         }
         10 => p.bytes.extend([LINK, s as u8, s as u8, 65]),
         11 => p.bytes.extend([LOSE, s as u8, s as u8]),
-        12 if p.n != 0 => {
-            let (from, to) = p.link_ends();
-            let delay = p.random.pick(&[65, 65, 66, 128, 255]) as u8;
-            p.bytes.extend([LINK, from as u8, to as u8, delay]);
-        }
         _ => p.bytes.extend([RUN, 0, 0]),
     }
     // bytes that must not be reached
