@@ -19,18 +19,30 @@ use Rattle.election.specs.Schedule.{End, schedule}
 use Rattle.election.proofs.Opened.{rules}
 use Rattle.election.proofs.Ruled.{ruled, byRules}
 use Rattle.election.proofs.Tables.{schedule-ruled}
-use Rattle.settling.specs.Instance.{bytes, stretch, d, L, begin, Instance, beforeCrash, withCrash, CrashOfL, withLosses, LostToUp, withCut, CutToUp, withDelay, SentLate, beforeLate, afterLate, LateUnderWay, beforeLowest, afterLowest, LowestNumber}
+use Rattle.settling.specs.Instance.{bytes, stretch, d, L, begin, Meets, Instance, slowBytes, slowStretch, SlowLinks, beforeCrash, withCrash, CrashOfL, withLosses, LostToUp, withCut, CutToUp, withDelay, SentLate, beforeLate, afterLate, LateUnderWay, beforeLowest, afterLowest, LowestNumber}
 use Rattle.election.specs.declared.Message.{Message}
 use Rattle.election.specs.declared.System.{System}
-use Rattle.settling.proofs.Tested.{every, implies, pairs, sentTest, arrivingTest, eachTest, permittedTest, losesNoneTest, firstTest, Found, found, says, quiet-of}
+use Rattle.settling.proofs.Tested.{every, implies, pairs, sentTest, arrivingTest, eachTest, permittedTest, losesNoneTest, firstTest, Found, found, Says, says, quiet-of}
 
 -- every definition that is computed with: what unfolds this name unfolds them
 computing : Unit {0}
 unfolding rules ruled maxTo agreed after history starts isUp moments befores dividedTicks longestWait longestTimeout upHeads given every implies pairs sentTest arrivingTest eachTest permittedTest losesNoneTest firstTest found
 computing = tt
 
+-- what is found: the conditions, the ticks, how many are divided, the bound
+abbrev finding : Bool → Bool → Bool → Bool → Bool → Bool → ℕ → ℕ → ℕ → Found
+finding first permitted none-lost none-cut arriving within all-ticks divided bound =
+    record { refusal = 0; first = first; permitted = permitted; none-lost = none-lost; none-cut = none-cut; arriving = arriving; within = within; all-ticks = all-ticks; divided = divided; bound = bound }
+
+-- all conditions hold
+abbrev holding : ℕ → ℕ → ℕ → Found
+holding all-ticks divided bound = finding true true true true true true all-ticks divided bound
+
+meets-of : {bytes : List ℕ} {stretch : List (List ℕ)} {d L ticks some most : ℕ} → Says bytes stretch d L (holding ticks some most) → Meets bytes stretch d L ticks some most
+meets-of s = record { accepted = s .accepted; first = s .first refl; quiet = quiet-of s refl refl refl refl refl; all-ticks = s .all-ticks; divided = s .divided; bounded = s .bounded }
+
 -- the instance
-instance-found : found (byRules bytes .end) (commands bytes) stretch d L ≡ record { refusal = 0; first = true; permitted = true; none-lost = true; none-cut = true; arriving = true; within = true; all-ticks = 38; divided = 32; bound = 46 }
+instance-found : found (byRules bytes .end) (commands bytes) stretch d L ≡ holding 38 32 46
 unfolding computing
 instance-found = refl
 
@@ -77,14 +89,8 @@ pub the-instance : Instance
 unfolding seen
 the-instance =
     let all = instance-seen ∙ instance-ruled in
-    let s = says bytes stretch d L _ refl instance-found in
     record {
-      accepted = s .accepted;
-      first = s .first refl;
-      quiet = quiet-of s refl refl refl refl refl;
-      all-ticks = s .all-ticks;
-      divided = s .divided;
-      bounded = s .bounded;
+      meets = meets-of (says bytes stretch d L _ refl instance-found);
       heads = ap (λ (x : Seen). x .heads) all;
       dead = ap (λ (x : Seen). x .up1) all;
       alive = ap (λ (x : Seen). x .up2) all;
@@ -96,13 +102,16 @@ the-instance =
       refused = ap (λ (x : Seen). x .refused) all;
     }
 
--- what is found where one condition is missed
-abbrev missing : Bool → Bool → Bool → Bool → Bool → Bool → ℕ → ℕ → ℕ → Found
-missing first permitted none-lost none-cut arriving within all-ticks divided bound =
-    record { refusal = 0; first = first; permitted = permitted; none-lost = none-lost; none-cut = none-cut; arriving = arriving; within = within; all-ticks = all-ticks; divided = divided; bound = bound }
+-- the longest delays
+slow-found : found (byRules slowBytes .end) (commands slowBytes) slowStretch 255 1 ≡ holding 290 271 32946
+unfolding computing
+slow-found = refl
+
+pub slow-links : SlowLinks
+slow-links = meets-of (says slowBytes slowStretch 255 1 _ refl slow-found)
 
 -- a crash of L
-crash-found : found (byRules beforeCrash .end) (commands beforeCrash) withCrash 1 1 ≡ missing true false true true true true 40 38 36
+crash-found : found (byRules beforeCrash .end) (commands beforeCrash) withCrash 1 1 ≡ finding true false true true true true 40 38 36
 unfolding computing
 crash-found = refl
 
@@ -112,7 +121,7 @@ crash-of-L =
     record { accepted = s .accepted; conditions = (s .first refl, s .none-lost refl, s .none-cut refl, s .arriving refl, s .within refl); passed = s .passed (omega arith) }
 
 -- messages to an up head that are lost, cut, sent late, and late when the stretch begins
-losses-found : found (byRules at20 .end) (commands at20) withLosses 1 1 ≡ missing true true false true true true 55 41 36
+losses-found : found (byRules at20 .end) (commands at20) withLosses 1 1 ≡ finding true true false true true true 55 41 36
 unfolding computing
 losses-found = refl
 
@@ -121,7 +130,7 @@ lost-to-up =
     let s = says at20 withLosses 1 1 _ refl losses-found in
     record { accepted = s .accepted; conditions = (s .first refl, s .permitted refl, s .none-cut refl, s .arriving refl, s .within refl); passed = s .passed (omega arith) }
 
-cut-found : found (byRules at20 .end) (commands at20) withCut 1 1 ≡ missing true true true false true true 55 41 36
+cut-found : found (byRules at20 .end) (commands at20) withCut 1 1 ≡ finding true true true false true true 55 41 36
 unfolding computing
 cut-found = refl
 
@@ -130,7 +139,7 @@ cut-to-up =
     let s = says at20 withCut 1 1 _ refl cut-found in
     record { accepted = s .accepted; conditions = (s .first refl, s .permitted refl, s .none-lost refl, s .arriving refl, s .within refl); passed = s .passed (omega arith) }
 
-delay-found : found (byRules at20 .end) (commands at20) withDelay 1 1 ≡ missing true true true true true false 55 41 36
+delay-found : found (byRules at20 .end) (commands at20) withDelay 1 1 ≡ finding true true true true true false 55 41 36
 unfolding computing
 delay-found = refl
 
@@ -139,7 +148,7 @@ sent-late =
     let s = says at20 withDelay 1 1 _ refl delay-found in
     record { accepted = s .accepted; conditions = (s .first refl, s .permitted refl, s .none-lost refl, s .none-cut refl, s .arriving refl); passed = s .passed (omega arith) }
 
-late-found : found (byRules beforeLate .end) (commands beforeLate) afterLate 1 2 ≡ missing true true true true false true 55 41 36
+late-found : found (byRules beforeLate .end) (commands beforeLate) afterLate 1 2 ≡ finding true true true true false true 55 41 36
 unfolding computing
 late-found = refl
 
@@ -149,7 +158,7 @@ late-under-way =
     record { accepted = s .accepted; conditions = (s .first refl, s .permitted refl, s .none-lost refl, s .none-cut refl, s .within refl); passed = s .passed (omega arith) }
 
 -- L the lowest number
-lowest-found : found (byRules beforeLowest .end) (commands beforeLowest) afterLowest 1 1 ≡ missing false true true true true true 40 40 37
+lowest-found : found (byRules beforeLowest .end) (commands beforeLowest) afterLowest 1 1 ≡ finding false true true true true true 40 40 37
 unfolding computing
 lowest-found = refl
 

@@ -1,5 +1,5 @@
--- Demand 3 computed: one instance that meets every condition, each no better than it has to be, and for each condition one that
--- misses it alone and passes the bound.
+-- Demand 3 computed: one instance that meets every condition, each no better than it has to be, one with the longest delays, and for each
+-- condition one that misses it alone and passes the bound.
 use mathlib.Core.Path.{_≡_}
 use mathlib.Core.List.{List, [], _∷_, _++_, map}
 use mathlib.Core.Bool.{true, false}
@@ -35,14 +35,17 @@ L = 2
 abbrev pub begin : System
 begin = schedule bytes .system
 
--- the conditions of demand 3 hold; of 38 ticks 32 are divided, where the bound is 46
-pub record Instance : Type 0 where
+-- the conditions of demand 3 hold after a schedule: of so many ticks so many are divided, where the bound is so high
+pub record Meets (bytes : List ℕ) (stretch : List (List ℕ)) (d L ticks some most : ℕ) : Type 0 where
   pub accepted : schedule bytes .refusal ≡ 0
-  pub first : First (begin .n) (commands bytes) L
-  pub quiet : Quiet d stretch begin
-  pub all-ticks : length (befores stretch begin) ≡ 38
-  pub divided : dividedTicks L (befores stretch begin) ≡ 32
-  pub bounded : bound d begin ≡ 46
+  pub first : First (schedule bytes .system .n) (commands bytes) L
+  pub quiet : Quiet d stretch (schedule bytes .system)
+  pub all-ticks : length (befores stretch (schedule bytes .system)) ≡ ticks
+  pub divided : dividedTicks L (befores stretch (schedule bytes .system)) ≡ some
+  pub bounded : bound d (schedule bytes .system) ≡ most
+
+pub record Instance : Type 0 where
+  pub meets : Meets bytes stretch d L 38 32 46
   -- two heads are up
   pub heads : upHeads begin ≡ 2
   pub dead : station begin 1 .up ≡ false
@@ -57,6 +60,16 @@ pub record Instance : Type 0 where
   pub sent-slowly : sentBy (given stretch begin) 3 ≡ sentBy begin 3 + 4
   -- the start in the stretch is refused
   pub refused : ruling (given (take 7 stretch) begin) (start 2) ≡ 8
+
+-- Two stations that start at once, with every delay 255: what 1 sends at tick 17 is heard at 272, and from then on both trust 1.
+abbrev pub slowBytes : List ℕ
+slowBytes = setUp 2 16 ++ link 1 2 255 ++ link 2 1 255 ++ start 1 ++ start 2
+
+abbrev pub slowStretch : List (List ℕ)
+slowStretch = run 255 ∷ run 35 ∷ []
+
+abbrev pub SlowLinks : Type 0
+SlowLinks = Meets slowBytes slowStretch 255 1 290 271 32946
 
 -- after an accepted schedule some of the conditions hold, and the divided ticks pass the bound
 pub record Passes (bytes : List ℕ) (stretch : List (List ℕ)) (d L : ℕ) (Conditions : System → Type 0) : Type 0 where
