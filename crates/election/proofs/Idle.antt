@@ -3,7 +3,7 @@ use mathlib.Core.Path.{_≡_, refl, sym, ap, subst, subst₂, _∙_}
 use mathlib.Core.Logic.{_≢_}
 use mathlib.Core.List.{List, [], _∷_, append-nil}
 use mathlib.Core.Bool.{Bool, true, false, cond, not, _&&_, and-false}
-use Prim.Native.Nat.{ℕ, zero, suc, _+_, _-_, _<_}
+use Prim.Native.Nat.{ℕ, zero, suc, _+_, _-_, _<_, _≤_}
 use native.Mathlib.Decide.{decLt}
 use native.Mathlib.Omega.{arith}
 use lib.ListN.{getD, take}
@@ -19,7 +19,7 @@ use Rattle.lists.proofs.Fold.{each-keeps}
 use Rattle.lists.proofs.Test.{all-at}
 use Rattle.station.specs.declared.Station.{Station}
 use Rattle.election.specs.Heads.{Hearing, hearing}
-use Rattle.election.specs.Idle.{quietStation, quietLink, quietAt, idle, Held, IdleHeld, IdleTicks, TickHeld}
+use Rattle.election.specs.Idle.{quietStation, quietLink, quietAt, idle, Held, IdleHeld, IdleTicks, Still, TickHeld}
 use Rattle.election.specs.System.{atTick, noStation, noMessage, noLink, station, place, from, to, messages, holding, underway, isLink, renewed}
 use Rattle.election.specs.Sound.{messageAt}
 use Rattle.election.specs.Tick.{next, heardLink, heardAll, expiredNow, slottedNow, heardBy, settled, sending, stationNext, sent, underwayAfter, seatNext, sentNext, linkNext, tick, ticks}
@@ -28,7 +28,7 @@ use Rattle.election.specs.declared.Message.{Message}
 use Rattle.election.specs.declared.System.{System}
 use Rattle.election.proofs.Places.{In, messages-holding}
 use Rattle.election.proofs.Soundness.{sound-of, link-of, place-of}
-use Rattle.election.proofs.TickSound.{after-few}
+use Rattle.election.proofs.TickSound.{after-few, ticks-add}
 use Rattle.election.proofs.Underway.{later-none}
 
 -- a link with no message due: none of its messages is due
@@ -180,6 +180,23 @@ idle-ticks (suc k) s full h =
     ap (ticks k) (idle-held s full (h (next s) (omega arith) (omega arith)))
     ∙ idle-ticks k (atTick (next s) s) (held-at (next s) s full) (λ now a b. h now (omega arith) (omega arith))
     ∙ ap (λ t. atTick t s) z
+
+-- up to which tick ticks only raise the counter: none yet; while nothing is due; after some of them
+pub still-none : (s : System) → Still 0 s
+unfolding ticks atTick
+still-none s k h =
+    let z : k ≡ 0 = omega arith in
+    let i : s .tick + 0 ≡ s .tick = omega arith in
+    rw (z, i) refl
+
+pub still-quiet : (until : ℕ) (s : System) → Held s → ((now : ℕ) → s .tick < now → now ≤ until → quietAt now s ≡ true) → Still until s
+still-quiet until s full h k b = idle-ticks k s full (λ now a d. h now a (omega arith))
+
+pub still-on : (until k : ℕ) (s : System) → s .tick + k ≤ until → Still until s → Still until (atTick (s .tick + k) s)
+unfolding atTick
+still-on until k s h still j b =
+    let z : s .tick + (k + j) ≡ s .tick + k + j = omega arith in
+    ap (ticks j) (sym (still k h)) ∙ ticks-add k j s ∙ still (k + j) (omega arith) ∙ ap (λ t. atTick t s) z
 
 -- what a tick leaves
 pub tick-held : TickHeld

@@ -130,6 +130,12 @@ unfolding ticks
 ticks-ready zero s = refl
 ticks-ready (suc t) s = ticks-ready t (tick s) ∙ tick-ready s
 
+-- a run after a run is one run
+pub ticks-add : (j k : ℕ) (s : System) → ticks k (ticks j s) ≡ ticks (j + k) s
+unfolding ticks
+ticks-add zero k s = let z : zero + k ≡ k = omega arith in rw z
+ticks-add (suc j) k s = let z : suc j + k ≡ suc (j + k) = omega arith in rw z (ticks-add j k (tick s))
+
 pub link-room : LinkRoom
 link-room s e u h p q p-low p-high q-low q-high ne =
     after-few s (sound-of s e u) h p q (record { low = p-low; high = p-high }) (record { low = q-low; high = q-high }) ne

@@ -46,6 +46,10 @@ IdleHeld = (s : System) → Held s → idle s ≡ true → tick s ≡ atTick (ne
 abbrev pub IdleTicks : Type 0
 IdleTicks = (k : ℕ) (s : System) → Held s → ((now : ℕ) → s .tick < now → now ≤ s .tick + k → quietAt now s ≡ true) → ticks k s ≡ atTick (s .tick + k) s
 
+-- up to a tick, ticks only raise the counter
+abbrev pub Still : ℕ → System → Type 0
+Still until s = (k : ℕ) → s .tick + k ≤ until → ticks k s ≡ atTick (s .tick + k) s
+
 -- a tick of a sound system leaves such a system
 abbrev pub TickHeld : Type 0
 TickHeld = (s : System) → sound s ≡ true → s .ready ≡ true → s .tick < lastTick → Held (tick s)

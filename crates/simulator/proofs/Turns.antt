@@ -18,14 +18,17 @@ use Rattle.lists.proofs.First.{passed}
 use Rattle.fit.specs.Fit.{within}
 use Rattle.station.specs.declared.Station.{Station}
 use Rattle.election.specs.Commands.{Command, SetUp, Start, Crash, Link, Run, Lose, Report, Result, decode, operands, tests, ruling, perform, refusal, command, numberOf}
-use Rattle.election.specs.System.{withStation, withDelay, withoutMessages, noStation, place, holding, withLinks, places}
+use Rattle.election.specs.Idle.{Still}
+use Rattle.election.specs.System.{atTick, withStation, withDelay, withoutMessages, noStation, place, holding, withLinks, places}
 use Rattle.election.specs.Listing.{listing, longestListing}
 use Rattle.election.specs.Onward.{Halt, after, toList, goOn}
 use Rattle.election.specs.Sound.{sound}
+use Rattle.election.specs.Tick.{ticks}
 use Rattle.election.specs.declared.Refusal.{Refusal}
 use Rattle.election.specs.declared.System.{System}
 use Rattle.election.proofs.FromOffset.{command-inside}
 use Rattle.election.proofs.GoingOn.{go-end, go-refused, go-full, go-after}
+use Rattle.election.proofs.Idle.{still-on}
 use Rattle.election.proofs.KeepsSound.{keeps-sound}
 use Rattle.layout.specs.Layout.{systemOf}
 use Rattle.layout.specs.declared.Layout.{Layout}
@@ -101,6 +104,10 @@ pub messages-stored : (s z y : Layout) (k p q i : ℕ) → k ≡ place p q → k
 messages-stored s z y k p q i h hk wide clear all e =
     let cleared : Clearing k s z 0 places = subst (Clearing k s z 0) all clear in
     (subst Wide (sym e) (record { used = length-set (z .used) k 0 ∙ ap (λ (x : Layout). length (x .used)) (cleared .same) ∙ wide .used; messages = cleared .size }), lost-read k s z y cleared wide hk e ∙ ap (λ j. withLinks (set (systemOf s .links) j (holding [])) (systemOf s)) h)
+
+-- a run by a tick up to which ticks only raise the counter
+pub tick-raised : (s y : Layout) (quiet t : ℕ) → Still quiet (systemOf s) → s .tick + t ≤ quiet → systemOf y ≡ atTick (s .tick + t) (systemOf s) → (systemOf y ≡ ticks t (systemOf s)) × Still quiet (systemOf y)
+tick-raised s y quiet t still h e = (e ∙ sym (still t h), subst (Still quiet) (sym e) (still-on quiet t (systemOf s) h still))
 
 -- where going on stands: a sound system, at an offset, with a text written to the buffer; it leads to what going on from the start leads to
 pub record Going (list : Bool) (bytes old : List ℕ) (s₀ : System) (at₀ : ℕ) (s : Layout) (at size : ℕ) (buffer : List ℕ) : Type 0 where

@@ -51,6 +51,8 @@ pub fn go_on(mut s: Layout, from: usize, bytes: &[u8], list: bool, buffer: &mut 
     let empty = unused();
     let mut at = from;
     let mut size = 0usize;
+    // up to this tick each tick only raises the counter
+    let mut quiet = 0u32;
     while at < bytes.len() {
         let k = named(&bytes[at..]);
         let d = decide(s.ready, s.n, s.tick, s.stations[k], &bytes[at..]);
@@ -65,21 +67,31 @@ pub fn go_on(mut s: Layout, from: usize, bytes: &[u8], list: bool, buffer: &mut 
             }
             Decision::SetUp { n, period } => {
                 s = set_up(n, ticks_of(period));
+                quiet = 0;
             }
             Decision::Start(p) => {
                 let place = (p - 1) as usize;
                 s.stations[place] = start(p, s.n, s.period, s.tick, s.stations[place]);
+                quiet = 0; // a started station has a chance
             }
             Decision::Crash(p) => {
                 let place = (p - 1) as usize;
                 s.stations[place] = crash(s.stations[place]);
+                quiet = 0;
             }
             Decision::Link { from, to, delay } => {
                 let link = place_of(from, to);
                 s.delays[link] = delay;
+                quiet = 0;
             }
             Decision::Run(t) => {
-                s = run(t, s);
+                if s.tick + t <= quiet {
+                    s.tick += t;
+                } else {
+                    let r = run(t, s);
+                    s = r.system;
+                    quiet = r.quiet;
+                }
             }
             Decision::Lose { from, to } => {
                 let link = place_of(from, to);
@@ -87,6 +99,7 @@ pub fn go_on(mut s: Layout, from: usize, bytes: &[u8], list: bool, buffer: &mut 
                     s.messages[PLACES * link + i] = empty;
                 }
                 s.used[link] = 0;
+                quiet = 0;
             }
             Decision::Report => {
                 if list {

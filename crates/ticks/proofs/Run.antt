@@ -1,18 +1,18 @@
 -- A run goes on from tick to tick, past those in which nothing is due.
 use mathlib.Core.Path.{_≡_, refl, sym, ap, _∙_}
 use mathlib.Core.Bool.{true}
-use Prim.Native.Nat.{ℕ, zero, suc, _+_, _-_, _<_, _≤_}
+use Prim.Native.Nat.{ℕ, suc, _+_, _-_, _<_, _≤_}
 use native.Mathlib.Omega.{arith}
 use Rattle.station.specs.Limits.{lastTick}
-use Rattle.election.specs.Idle.{quietAt, Held}
+use Rattle.election.specs.Idle.{quietAt, Held, Still}
 use Rattle.election.specs.System.{atTick}
 use Rattle.election.specs.Sound.{sound}
 use Rattle.election.specs.Tick.{tick, ticks}
 use Rattle.election.specs.declared.System.{System}
-use Rattle.election.proofs.Idle.{held-at, idle-ticks, tick-held}
+use Rattle.election.proofs.Idle.{held-at, idle-ticks, still-quiet, tick-held}
 use Rattle.election.proofs.Places.{tick-tick, tick-n, tick-ready}
 use Rattle.election.proofs.Soundness.{of-sound, sound-of}
-use Rattle.election.proofs.TickSound.{tick-sound, ticks-sound, ticks-ready}
+use Rattle.election.proofs.TickSound.{tick-sound, ticks-sound, ticks-ready, ticks-add}
 use Rattle.ticks.specs.Sending.{Ticking}
 
 -- a run of t ticks from s has come to r: what is left of it leads to the same system
@@ -34,16 +34,12 @@ pub going-done : (t : ℕ) (s r : System) → Going t s r → s .tick + t ≤ r 
 unfolding ticks
 going-done t s r g h = let z : s .tick + t - r .tick ≡ 0 = omega arith in rw z at (g .rest)
 
-ticks-add : (j k : ℕ) (s : System) → ticks k (ticks j s) ≡ ticks (j + k) s
-unfolding ticks
-ticks-add zero k s = let z : zero + k ≡ k = omega arith in rw z
-ticks-add (suc j) k s = let z : suc j + k ≡ suc (j + k) = omega arith in rw z (ticks-add j k (tick s))
-
 module _ (t : ℕ) (s r : System) (g : Going t s r) (h : r .tick < s .tick + t) where
   pub going-ticking : Ticking r
   going-ticking = record { is-sound = g .is-sound; is-ready = g .is-ready; room = omega (arith, g .room) }
 
-  module _ (until : ℕ) (low : r .tick + 1 ≤ until) (high : until ≤ s .tick + t) (calm : (now : ℕ) → r .tick + 1 < now → now ≤ until → quietAt now (tick r) ≡ true) where
+  -- up to quiet nothing is due, and the counter goes on to until
+  module _ (quiet until : ℕ) (low : r .tick + 1 ≤ until) (high : until ≤ s .tick + t) (by : until ≤ quiet) (calm : (now : ℕ) → r .tick + 1 < now → now ≤ quiet → quietAt now (tick r) ≡ true) where
     skipped : ℕ
     skipped = until - (r .tick + 1)
 
@@ -73,3 +69,7 @@ module _ (t : ℕ) (s r : System) (g : Going t s r) (h : r .tick < s .tick + t) 
               let z : s .tick + t - r .tick ≡ suc (until - (r .tick + 1) + (s .tick + t - until)) = omega arith in
               ap (ticks (s .tick + t - until)) at-until ∙ ticks-add skipped (s .tick + t - until) (tick r) ∙ rw z at (g .rest);
         }
+
+    pub going-still : Still quiet (atTick until (tick r))
+    unfolding quietAt atTick
+    going-still = still-quiet quiet (atTick until (tick r)) (held-at until (tick r) after) (λ now a b. calm now (omega arith) b)

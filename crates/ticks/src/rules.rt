@@ -5,8 +5,10 @@ ghost use mathlib.Core.Bool.{true};
 ghost use Prim.Native.Nat.{_+_, _≤_};
 ghost use Rattle.station.specs.Limits.{lastTick};
 ghost use Rattle.layout.specs.Layout.{systemOf};
+ghost use Rattle.election.specs.Idle.{Still};
 ghost use Rattle.election.specs.Sound.{sound};
 ghost use Rattle.election.specs.Tick.{ticks};
+use crate::due::least;
 use crate::due::quiet_station;
 use crate::due::short_of;
 use crate::steps::sends_now;
@@ -19,6 +21,15 @@ use layout::rules::unused;
 use station::rules::expire;
 use station::rules::hear;
 use station::rules::slot;
+
+// The last tick: a run ends by then.
+const LAST_TICK: u32 = 1000000;
+
+// What a run leaves: the system, and a tick up to which each tick only raises the counter.
+pub struct Ran {
+    pub system: Layout,
+    pub quiet: u32,
+}
 
 // A count of messages, and a delay.
 fn count(x: u8) -> usize
@@ -34,10 +45,11 @@ fn ticks_of(d: u8) -> u32
 }
 
 // The system after t ticks. In a tick what is due is heard, sender by sender, past those that have nothing under way; then each timer and
-// each send chance that is due is done; then the counter goes on to `until`: up to there nothing is due.
-pub fn run(t: u32, mut s: Layout) -> Layout
+// each send chance that is due is done; then the counter goes on to `until`, or to the end of the run: up to `until` nothing is due.
+pub fn run(t: u32, mut s: Layout) -> Ran
     requires { ⌜ (sound (systemOf s) ≡ true) × (s .ready ≡ true) × (s .tick + t ≤ lastTick) ⌝ }
-    ensures { λ r. ⌜ systemOf r ≡ ticks t (systemOf s) ⌝ }
+    ensures { λ r. ⌜ systemOf (r .system) ≡ ticks t (systemOf s) ⌝ }
+    ensures { λ r. ⌜ Still (r .quiet) (systemOf (r .system)) ⌝ }
 {
     let end = s.tick + t;
     let n = s.n as usize;
@@ -51,9 +63,10 @@ pub fn run(t: u32, mut s: Layout) -> Layout
             }
         }
     }
+    let mut quiet = 0u32;
     while s.tick < end {
         let now = s.tick + 1;
-        let mut until = end;
+        let mut until = LAST_TICK;
         for q in 0..n {
             if busy[q] {
                 let mut more = false;
@@ -122,7 +135,8 @@ pub fn run(t: u32, mut s: Layout) -> Layout
             }
             until = quiet_station(now, s.stations[p], until);
         }
-        s.tick = until;
+        quiet = until;
+        s.tick = least(until, end);
     }
-    s
+    Ran { system: s, quiet }
 }

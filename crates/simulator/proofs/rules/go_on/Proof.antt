@@ -9,8 +9,10 @@ use lib.ListN.{length, getD, drop, length-map, length-append}
 use borrow.Author.Needs.{needs}
 use Rattle.station.specs.declared.Station.{Station}
 use Rattle.election.specs.Commands.{Command, SetUp, Start, Crash, Link, Run, Lose, Report, decode, operands, ruling, perform}
-use Rattle.election.specs.System.{withStation, unused, initial, places}
+use Rattle.election.specs.Idle.{Still}
+use Rattle.election.specs.System.{atTick, withStation, unused, initial, places}
 use Rattle.election.proofs.Accepting.{Accepts, accepts}
+use Rattle.election.proofs.Idle.{still-none}
 use Rattle.election.proofs.Soundness.{Sound, sound-of}
 use Rattle.election.specs.Listing.{listing}
 use Rattle.election.specs.declared.System.{System}
@@ -21,27 +23,27 @@ use Rattle.listing.proofs.Parts.{room-part}
 use Rattle.listing.proofs.Room.{listing-room}
 use Rattle.decision.specs.Decided.{Taken, decided, meaning}
 use Rattle.decision.specs.declared.Decision.{Decision}
-use Rattle.simulator.proofs.Turns.{decided-of, station-stored, delay-stored, messages-stored, Going, going-first, same-size, ends, turned-down, taken, stops-full, inside-after, further, listed}
+use Rattle.simulator.proofs.Turns.{decided-of, station-stored, delay-stored, messages-stored, tick-raised, Going, going-first, same-size, ends, turned-down, taken, stops-full, inside-after, further, listed}
 use Rattle.simulator.proofs.rules.go_on.Statement.{statement}
 use Rattle.simulator.proofs.rules.go_on.Tie as tie
 
 abbrev Inv-loop2 : tie.InvT-loop2
-Inv-loop2 from bytes list buffer s₀ empty at size k from' to link i₀ s i = (i ≤ places) × (link < 64) × Clearing link s₀ s 0 i
+Inv-loop2 from bytes list buffer s₀ empty at size quiet k from' to link i₀ s i = (i ≤ places) × (link < 64) × Clearing link s₀ s 0 i
 
 abbrev μ-loop2 : tie.MeasureT-loop2
-μ-loop2 from bytes list buffer s₀ empty at size k from' to link i₀ s i = places - i
+μ-loop2 from bytes list buffer s₀ empty at size quiet k from' to link i₀ s i = places - i
 
 abbrev Inv-loop : tie.InvT-loop
-Inv-loop from bytes list buffer₀ s₀ empty at₀ size₀ buffer s at size = (length buffer ≡ length buffer₀) × Going list bytes buffer₀ (systemOf s₀) at₀ s at size buffer
+Inv-loop from bytes list buffer₀ s₀ empty at₀ size₀ quiet₀ buffer s at size quiet = (length buffer ≡ length buffer₀) × Going list bytes buffer₀ (systemOf s₀) at₀ s at size buffer × Still quiet (systemOf s)
 
 abbrev μ-loop : tie.MeasureT-loop
-μ-loop from bytes list buffer₀ s₀ empty at₀ size₀ buffer s at size = length bytes - at
+μ-loop from bytes list buffer₀ s₀ empty at₀ size₀ quiet₀ buffer s at size quiet = length bytes - at
 
 loop-holds : tie.Need-loop-holds Inv-loop2 μ-loop2 Inv-loop μ-loop
 loop-holds c =
-    (refl, going-first _ _ _ (c .before .before .before .args .t1) _ (c .before .before .before .pre) (record { used = simp length-map at (c .before .before .before .good .0 .1 .1 .1 .1 .1 .1 .1 .1 .1 .0 .1 .0 .1); messages = simp length-map at (c .before .before .before .good .0 .1 .1 .1 .1 .1 .1 .1 .1 .1 .1 .0 .1 .0 .1) }))
+    (refl, going-first _ _ _ (c .before .before .before .args .t1) _ (c .before .before .before .pre) (record { used = simp length-map at (c .before .before .before .good .0 .1 .1 .1 .1 .1 .1 .1 .1 .1 .0 .1 .0 .1); messages = simp length-map at (c .before .before .before .good .0 .1 .1 .1 .1 .1 .1 .1 .1 .1 .1 .0 .1 .0 .1) }), still-none (systemOf (c .before .before .before .args .t1)))
 
--- where a command is decided: the system, the offset, what is written, and the decision
+-- where a command is decided: the system, the offset, what is written, up to which tick nothing is due, and the decision
 module _ (x : tie.After-decide Inv-loop2 μ-loop2 Inv-loop μ-loop) where
   abbrev s : Layout
   s = x .before .before .before .before .before .before .loop .s
@@ -51,6 +53,9 @@ module _ (x : tie.After-decide Inv-loop2 μ-loop2 Inv-loop μ-loop) where
 
   abbrev size : ℕ
   size = x .before .before .before .before .before .before .loop .size
+
+  abbrev quiet : ℕ
+  quiet = x .before .before .before .before .before .before .loop .quiet
 
   abbrev buffer : List ℕ
   buffer = x .before .before .before .before .before .before .loop .buffer
@@ -75,6 +80,9 @@ module _ (x : tie.After-decide Inv-loop2 μ-loop2 Inv-loop μ-loop) where
 
   g : Going list bytes old s₀ from s at size buffer
   g = x .before .before .before .before .before .before .loop .inv .1
+
+  still : Still quiet (systemOf s)
+  still = x .before .before .before .before .before .before .loop .inv .2
 
   inside : at < length bytes
   inside = x .before .before .before .before .before .loop-test .taken
@@ -140,10 +148,18 @@ place-of-requires c κs =
     let (ready, i, j, ne, short) = accepted x _ (ap meaning (c .before .d5 .given .1)) in
     (i .low, omega (arith, i .high, is x ready .n-high), j .low, omega (arith, j .high, is x ready .n-high))
 
+add-if1 : tie.Need-add-if1 Inv-loop2 μ-loop2 Inv-loop μ-loop
+add-if1 c =
+    let (ready, some, room) = accepted (c .before .before .before) _ (ap meaning (c .before .d6 .given .1)) in
+    omega (arith, room)
+
+add-s : tie.Need-add-s Inv-loop2 μ-loop2 Inv-loop μ-loop
+add-s c = add-if1 (c .before)
+
 run-requires : tie.Need-run-requires Inv-loop2 μ-loop2 Inv-loop μ-loop
 run-requires c κs =
-    let x = c .before .before .before in
-    let (ready, some, room) = accepted x _ (ap meaning (c .before .d6 .given .1)) in
+    let x = c .before .before .before .before in
+    let (ready, some, room) = accepted x _ (ap meaning (c .before .before .d6 .given .1)) in
     (g x .is-sound, ready, room)
 
 place-of-requires-2 : tie.Need-place-of-requires-2 Inv-loop2 μ-loop2 Inv-loop μ-loop
@@ -164,70 +180,79 @@ loop2-again c =
 returns-2 : tie.Need-returns-2 Inv-loop2 μ-loop2 Inv-loop μ-loop
 returns-2 c =
     let x = c .before .before .before .before in
-    stops-full (list x) (bytes x) (old x) (s₀ x) (from x) (s x) (at x) (size x) (buffer x) (g x) (inside x) (d x) (m x) Report (ap meaning (c .before .before .enum-told .given .1)) (rw (c .before .if1 .taken) refl) (omega (arith, c .if2 .taken, c .before .before .before .before .before .before .before .before .before .before .loop .inv .0))
+    stops-full (list x) (bytes x) (old x) (s₀ x) (from x) (s x) (at x) (size x) (buffer x) (g x) (inside x) (d x) (m x) Report (ap meaning (c .before .before .enum-told .given .1)) (rw (c .before .if2 .taken) refl) (omega (arith, c .if3 .taken, c .before .before .before .before .before .before .before .before .before .before .loop .inv .0))
 
 write-listing-requires : tie.Need-write-listing-requires Inv-loop2 μ-loop2 Inv-loop μ-loop
 write-listing-requires c κs =
     let x = c .before .before .before .before .before .before .before in
     let few = is x (accepted x Report (ap meaning (c .before .before .before .before .before .enum-told .given .1))) .n-high in
-    (few, room-part (listing (systemOf (s x))) (g x .wrote) (omega (arith, listing-room (systemOf (s x)) few, c .before .before .before .if2 .left, g x .wrote .count, same-size _ _ _ _ _ _ _ _ _ (g x), length-append (g x .text) (listing (systemOf (s x))))))
+    (few, room-part (listing (systemOf (s x))) (g x .wrote) (omega (arith, listing-room (systemOf (s x)) few, c .before .before .before .if3 .left, g x .wrote .count, same-size _ _ _ _ _ _ _ _ _ (g x), length-append (g x .text) (listing (systemOf (s x))))))
 
 add-size : tie.Need-add-size Inv-loop2 μ-loop2 Inv-loop μ-loop
 add-size c =
     let x = c .before .before .before .before .before .before .before .before .before .before in
     let fit = listing-room (systemOf (s x)) (is x (accepted x Report (ap meaning (c .before .before .before .before .before .before .before .before .enum-told .given .1))) .n-high) in
-    record { fits = omega (arith, c .before .before .write-listing .ensures .count, fit, c .before .before .before .before .before .before .if2 .left, c .before .before .before .before .before .before .before .before .before .before .before .before .before .before .before .before .loop .inv .0, g x .fits, c .before .before .before .before .before .before .before .before .before .before .before .before .before .before .before .before .before .before .before .before .good .1 .1 .1 .1 .0 .0) }
+    record { fits = omega (arith, c .before .before .write-listing .ensures .count, fit, c .before .before .before .before .before .before .if3 .left, c .before .before .before .before .before .before .before .before .before .before .before .before .before .before .before .before .loop .inv .0, g x .fits, c .before .before .before .before .before .before .before .before .before .before .before .before .before .before .before .before .before .before .before .before .good .1 .1 .1 .1 .0 .0) }
 
-met : (c : tie.At-match-came Inv-loop2 μ-loop2 Inv-loop μ-loop) → (w : ℕ) → w ≡ operands (decode (getD (c .before .before .before .before .before .before .before .before .before .before .before .args .bytes .now) (c .before .before .before .before .before .before .before .loop .at) 0 ∷ [])) → (c .before .before .before .before .before .before .before .loop .at + (1 + w) ≤ length (c .before .before .before .before .before .before .before .before .before .before .before .args .bytes .now)) × (length (c .match .buffer) ≡ length (c .before .before .before .before .before .before .before .before .before .before .before .args .buffer .now)) × Going (c .before .before .before .before .before .before .before .before .before .before .before .args .list) (c .before .before .before .before .before .before .before .before .before .before .before .args .bytes .now) (c .before .before .before .before .before .before .before .before .before .before .before .args .buffer .now) (systemOf (c .before .before .before .before .before .before .before .before .before .before .before .args .t1)) (c .before .before .before .before .before .before .before .before .before .before .before .args .from) (c .match .s) (c .before .before .before .before .before .before .before .loop .at + (1 + w)) (c .match .size) (c .match .buffer)
-unfolding perform
+met : (c : tie.At-match-came Inv-loop2 μ-loop2 Inv-loop μ-loop) → (w : ℕ) → w ≡ operands (decode (getD (c .before .before .before .before .before .before .before .before .before .before .before .args .bytes .now) (c .before .before .before .before .before .before .before .loop .at) 0 ∷ [])) → (c .before .before .before .before .before .before .before .loop .at + (1 + w) ≤ length (c .before .before .before .before .before .before .before .before .before .before .before .args .bytes .now)) × (length (c .match .buffer) ≡ length (c .before .before .before .before .before .before .before .before .before .before .before .args .buffer .now)) × Going (c .before .before .before .before .before .before .before .before .before .before .before .args .list) (c .before .before .before .before .before .before .before .before .before .before .before .args .bytes .now) (c .before .before .before .before .before .before .before .before .before .before .before .args .buffer .now) (systemOf (c .before .before .before .before .before .before .before .before .before .before .before .args .t1)) (c .before .before .before .before .before .before .before .before .before .before .before .args .from) (c .match .s) (c .before .before .before .before .before .before .before .loop .at + (1 + w)) (c .match .size) (c .match .buffer) × Still (c .match .quiet) (systemOf (c .match .s))
+unfolding perform atTick
 met c =
     let x = c .before in
     let same = c .before .before .before .before .before .before .before .loop .inv .0 in
+    let none : c .match .quiet ≡ 0 → Still (c .match .quiet) (systemOf (c .match .s)) = λ f. rw f (still-none (systemOf (c .match .s))) in
+    let kept : c .match .s ≡ s x → c .match .quiet ≡ quiet x → Still (c .match .quiet) (systemOf (c .match .s)) = λ e f. rw (e, f) (still x) in
     λ w e.
     ⊎-elim
     (λ a.
     let k = SetUp (a .1 .given .0 .0) (a .1 .given .0 .1 .0) in
     let t = ap meaning (a .1 .given .1) in
-    (inside-after (list x) (bytes x) (old x) (s₀ x) (from x) (s x) (at x) (size x) (buffer x) (g x) (inside x) (d x) (m x) k t w e, ap length (a .5) ∙ same, further (list x) (bytes x) (old x) (s₀ x) (from x) (s x) (at x) (size x) (buffer x) (g x) (inside x) (d x) (m x) k t w e (and-false (list x)) _ _ _ (subst Wide (sym (a .6)) (record { used = simp length-map at (a .4 .ok .1 .1 .1 .1 .1 .1 .1 .1 .1 .0 .1 .0 .1); messages = simp length-map at (a .4 .ok .1 .1 .1 .1 .1 .1 .1 .1 .1 .1 .0 .1 .0 .1) })) (ap systemOf (a .6) ∙ a .4 .ensures ∙ ap (initial (a .1 .given .0 .0)) (a .3 .ensures)) (a .7) (a .5)))
+    (inside-after (list x) (bytes x) (old x) (s₀ x) (from x) (s x) (at x) (size x) (buffer x) (g x) (inside x) (d x) (m x) k t w e, ap length (a .5) ∙ same, further (list x) (bytes x) (old x) (s₀ x) (from x) (s x) (at x) (size x) (buffer x) (g x) (inside x) (d x) (m x) k t w e (and-false (list x)) _ _ _ (subst Wide (sym (a .6)) (record { used = simp length-map at (a .4 .ok .1 .1 .1 .1 .1 .1 .1 .1 .1 .0 .1 .0 .1); messages = simp length-map at (a .4 .ok .1 .1 .1 .1 .1 .1 .1 .1 .1 .1 .0 .1 .0 .1) })) (ap systemOf (a .6) ∙ a .4 .ensures ∙ ap (initial (a .1 .given .0 .0)) (a .3 .ensures)) (a .7) (a .5), none (a .8)))
     (⊎-elim
     (λ a.
     let p = a .1 .given .0 .0 in
     let t = ap meaning (a .1 .given .1) in
-    (inside-after (list x) (bytes x) (old x) (s₀ x) (from x) (s x) (at x) (size x) (buffer x) (g x) (inside x) (d x) (m x) (Start p) t w e, ap length (a .5) ∙ same, further (list x) (bytes x) (old x) (s₀ x) (from x) (s x) (at x) (size x) (buffer x) (g x) (inside x) (d x) (m x) (Start p) t w e (and-false (list x)) _ _ _ (subst Wide (sym (a .6)) (record { used = g x .wide .used; messages = g x .wide .messages })) (station-stored (s x) _ p _ (a .6) ∙ ap (λ (y : Station). withStation p y (systemOf (s x))) (a .4 .ensures)) (a .7) (a .5)))
+    (inside-after (list x) (bytes x) (old x) (s₀ x) (from x) (s x) (at x) (size x) (buffer x) (g x) (inside x) (d x) (m x) (Start p) t w e, ap length (a .5) ∙ same, further (list x) (bytes x) (old x) (s₀ x) (from x) (s x) (at x) (size x) (buffer x) (g x) (inside x) (d x) (m x) (Start p) t w e (and-false (list x)) _ _ _ (subst Wide (sym (a .6)) (record { used = g x .wide .used; messages = g x .wide .messages })) (station-stored (s x) _ p _ (a .6) ∙ ap (λ (y : Station). withStation p y (systemOf (s x))) (a .4 .ensures)) (a .7) (a .5), none (a .8)))
     (⊎-elim
     (λ a.
     let p = a .1 .given .0 .0 in
     let t = ap meaning (a .1 .given .1) in
-    (inside-after (list x) (bytes x) (old x) (s₀ x) (from x) (s x) (at x) (size x) (buffer x) (g x) (inside x) (d x) (m x) (Crash p) t w e, ap length (a .5) ∙ same, further (list x) (bytes x) (old x) (s₀ x) (from x) (s x) (at x) (size x) (buffer x) (g x) (inside x) (d x) (m x) (Crash p) t w e (and-false (list x)) _ _ _ (subst Wide (sym (a .6)) (record { used = g x .wide .used; messages = g x .wide .messages })) (station-stored (s x) _ p _ (a .6) ∙ ap (λ (y : Station). withStation p y (systemOf (s x))) (a .4 .ensures)) (a .7) (a .5)))
+    (inside-after (list x) (bytes x) (old x) (s₀ x) (from x) (s x) (at x) (size x) (buffer x) (g x) (inside x) (d x) (m x) (Crash p) t w e, ap length (a .5) ∙ same, further (list x) (bytes x) (old x) (s₀ x) (from x) (s x) (at x) (size x) (buffer x) (g x) (inside x) (d x) (m x) (Crash p) t w e (and-false (list x)) _ _ _ (subst Wide (sym (a .6)) (record { used = g x .wide .used; messages = g x .wide .messages })) (station-stored (s x) _ p _ (a .6) ∙ ap (λ (y : Station). withStation p y (systemOf (s x))) (a .4 .ensures)) (a .7) (a .5), none (a .8)))
     (⊎-elim
     (λ a.
     let p = a .1 .given .0 .0 in
     let q = a .1 .given .0 .1 .0 in
     let y = a .1 .given .0 .1 .1 .0 in
     let t = ap meaning (a .1 .given .1) in
-    (inside-after (list x) (bytes x) (old x) (s₀ x) (from x) (s x) (at x) (size x) (buffer x) (g x) (inside x) (d x) (m x) (Link p q y) t w e, ap length (a .4) ∙ same, further (list x) (bytes x) (old x) (s₀ x) (from x) (s x) (at x) (size x) (buffer x) (g x) (inside x) (d x) (m x) (Link p q y) t w e (and-false (list x)) _ _ _ (subst Wide (sym (a .5)) (record { used = g x .wide .used; messages = g x .wide .messages })) (delay-stored (s x) _ _ p q y (a .3 .ensures .0) (a .5)) (a .6) (a .4)))
+    (inside-after (list x) (bytes x) (old x) (s₀ x) (from x) (s x) (at x) (size x) (buffer x) (g x) (inside x) (d x) (m x) (Link p q y) t w e, ap length (a .4) ∙ same, further (list x) (bytes x) (old x) (s₀ x) (from x) (s x) (at x) (size x) (buffer x) (g x) (inside x) (d x) (m x) (Link p q y) t w e (and-false (list x)) _ _ _ (subst Wide (sym (a .5)) (record { used = g x .wide .used; messages = g x .wide .messages })) (delay-stored (s x) _ _ p q y (a .3 .ensures .0) (a .5)) (a .6) (a .4), none (a .7)))
+    (⊎-elim
+    (λ a.
+    let ticked = a .1 .given .0 .0 in
+    let k = Run ticked in
+    let t = ap meaning (a .1 .given .1) in
+    let (raised, rests) = tick-raised (s x) (c .match .s) (quiet x) ticked (still x) (a .3 .taken) (ap systemOf (a .5)) in
+    (inside-after (list x) (bytes x) (old x) (s₀ x) (from x) (s x) (at x) (size x) (buffer x) (g x) (inside x) (d x) (m x) k t w e, ap length (a .4) ∙ same, further (list x) (bytes x) (old x) (s₀ x) (from x) (s x) (at x) (size x) (buffer x) (g x) (inside x) (d x) (m x) k t w e (and-false (list x)) _ _ _ (subst Wide (sym (a .5)) (record { used = g x .wide .used; messages = g x .wide .messages })) raised (a .6) (a .4), rw (a .7) rests))
     (⊎-elim
     (λ a.
     let k = Run (a .1 .given .0 .0) in
     let t = ap meaning (a .1 .given .1) in
-    (inside-after (list x) (bytes x) (old x) (s₀ x) (from x) (s x) (at x) (size x) (buffer x) (g x) (inside x) (d x) (m x) k t w e, ap length (a .4) ∙ same, further (list x) (bytes x) (old x) (s₀ x) (from x) (s x) (at x) (size x) (buffer x) (g x) (inside x) (d x) (m x) k t w e (and-false (list x)) _ _ _ (subst Wide (sym (a .5)) (record { used = simp length-map at (a .3 .ok .1 .1 .1 .1 .1 .1 .1 .1 .1 .0 .1 .0 .1); messages = simp length-map at (a .3 .ok .1 .1 .1 .1 .1 .1 .1 .1 .1 .1 .0 .1 .0 .1) })) (ap systemOf (a .5) ∙ a .3 .ensures) (a .6) (a .4)))
+    (inside-after (list x) (bytes x) (old x) (s₀ x) (from x) (s x) (at x) (size x) (buffer x) (g x) (inside x) (d x) (m x) k t w e, ap length (a .6) ∙ same, further (list x) (bytes x) (old x) (s₀ x) (from x) (s x) (at x) (size x) (buffer x) (g x) (inside x) (d x) (m x) k t w e (and-false (list x)) _ _ _ (subst Wide (sym (a .7)) (record { used = simp length-map at (a .4 .ok .1 .1 .0 .1 .1 .1 .1 .1 .1 .1 .1 .1 .0 .1 .0 .1); messages = simp length-map at (a .4 .ok .1 .1 .0 .1 .1 .1 .1 .1 .1 .1 .1 .1 .1 .0 .1 .0 .1) })) (ap systemOf (a .7) ∙ a .4 .ensures .0) (a .8) (a .6), rw (a .7, a .9) (a .4 .ensures .1)))
     (⊎-elim
     (λ a.
     let p = a .1 .given .0 .0 in
     let q = a .1 .given .0 .1 .0 in
     let t = ap meaning (a .1 .given .1) in
     let (wide, stored) = messages-stored (s x) (a .4 .s) _ _ p q (a .4 .i) (a .3 .ensures .0) (a .3 .ensures .1) (g x .wide) (a .4 .inv .2) (omega (arith, a .4 .inv .0, a .5 .left)) (a .7) in
-    (inside-after (list x) (bytes x) (old x) (s₀ x) (from x) (s x) (at x) (size x) (buffer x) (g x) (inside x) (d x) (m x) (Lose p q) t w e, ap length (a .6) ∙ same, further (list x) (bytes x) (old x) (s₀ x) (from x) (s x) (at x) (size x) (buffer x) (g x) (inside x) (d x) (m x) (Lose p q) t w e (and-false (list x)) _ _ _ wide stored (a .8) (a .6)))
+    (inside-after (list x) (bytes x) (old x) (s₀ x) (from x) (s x) (at x) (size x) (buffer x) (g x) (inside x) (d x) (m x) (Lose p q) t w e, ap length (a .6) ∙ same, further (list x) (bytes x) (old x) (s₀ x) (from x) (s x) (at x) (size x) (buffer x) (g x) (inside x) (d x) (m x) (Lose p q) t w e (and-false (list x)) _ _ _ wide stored (a .8) (a .6), none (a .9)))
     (⊎-elim
     (λ a.
     let t = ap meaning (a .1 .given .1) in
     let ready = accepts Report (systemOf (s x)) (taken (list x) (bytes x) (old x) (s₀ x) (from x) (s x) (at x) (size x) (buffer x) (g x) (inside x) (d x) (m x) Report t .1) in
     let fit = listing-room (systemOf (s x)) (sound-of (systemOf (s x)) (g x .is-sound) ready .n-high) in
     let on = subst (λ z. Going (list x) (bytes x) (old x) (s₀ x) (from x) z (at x + (1 + w)) (c .match .size) (c .match .buffer)) (sym (a .11)) (listed (list x) (bytes x) (old x) (s₀ x) (from x) (s x) (at x) (size x) (buffer x) (g x) (inside x) (d x) (m x) Report t w e (rw (a .2 .taken) refl) (omega (arith, a .3 .left, same)) _ _ _ _ fit (a .7 .ensures) (a .12) (a .10) refl) in
-    (inside-after (list x) (bytes x) (old x) (s₀ x) (from x) (s x) (at x) (size x) (buffer x) (g x) (inside x) (d x) (m x) Report t w e, same-size (list x) (bytes x) (old x) (s₀ x) (from x) (c .match .s) (at x + (1 + w)) (c .match .size) (c .match .buffer) on, on))
+    (inside-after (list x) (bytes x) (old x) (s₀ x) (from x) (s x) (at x) (size x) (buffer x) (g x) (inside x) (d x) (m x) Report t w e, same-size (list x) (bytes x) (old x) (s₀ x) (from x) (c .match .s) (at x + (1 + w)) (c .match .size) (c .match .buffer) on, on, kept (a .11) (a .13)))
     (λ a.
     let t = ap meaning (a .1 .given .1) in
-    (inside-after (list x) (bytes x) (old x) (s₀ x) (from x) (s x) (at x) (size x) (buffer x) (g x) (inside x) (d x) (m x) Report t w e, ap length (a .3) ∙ same, further (list x) (bytes x) (old x) (s₀ x) (from x) (s x) (at x) (size x) (buffer x) (g x) (inside x) (d x) (m x) Report t w e (rw (a .2 .left) refl) _ _ _ (subst Wide (sym (a .4)) (g x .wide)) (ap systemOf (a .4)) (a .5) (a .3)))))))))
+    (inside-after (list x) (bytes x) (old x) (s₀ x) (from x) (s x) (at x) (size x) (buffer x) (g x) (inside x) (d x) (m x) Report t w e, ap length (a .3) ∙ same, further (list x) (bytes x) (old x) (s₀ x) (from x) (s x) (at x) (size x) (buffer x) (g x) (inside x) (d x) (m x) Report t w e (rw (a .2 .left) refl) _ _ _ (subst Wide (sym (a .4)) (g x .wide)) (ap systemOf (a .4)) (a .5) (a .3), kept (a .4) (a .6))))))))))
     (c .match .came)
 
 add-at : tie.Need-add-at Inv-loop2 μ-loop2 Inv-loop μ-loop
@@ -243,7 +268,7 @@ add-at-2 c =
 loop-again : tie.Need-loop-again Inv-loop2 μ-loop2 Inv-loop μ-loop
 loop-again c =
     let on = met (c .before .before) _ (c .width .ensures) in
-    (on .1, on .2)
+    (on .1, on .2, on .3)
 
 returns-3 : tie.Need-returns-3 Inv-loop2 μ-loop2 Inv-loop μ-loop
 returns-3 c =
@@ -296,6 +321,8 @@ go-on-spec =
     place-of-requires
     (λ c. search needs)
     (λ c. search needs)
+    add-if1
+    add-s
     run-requires
     (λ c. search needs)
     place-of-requires-2

@@ -14,8 +14,10 @@ use Rattle.layout.specs.Layout.{systemOf}
 use Rattle.layout.specs.declared.Layout.{Layout}
 use Rattle.layout.proofs.Full.{counts-owned, held-of}
 use Rattle.layout.proofs.Stores.{Wide, part, length-links, Clearing, clearing-none, clearing-turn, used-read}
+use Rattle.election.specs.Idle.{Still}
 use Rattle.election.specs.System.{atTick, noStation, noLink, places}
 use Rattle.election.specs.declared.System.{System}
+use Rattle.election.proofs.Idle.{still-none}
 use Rattle.election.proofs.Soundness.{sound-of}
 use Rattle.ticks.proofs.Chances.{Chances, chances-first, chances-station, chances-says, chances-late, chances-period, chances-skips, chances-free, chances-sends, chances-done, Turn, turn-ends, turn-stays, turn-sends, turn-rests, turn-slots, turn-waits}
 use Rattle.ticks.proofs.Counted.{chances-counted}
@@ -23,7 +25,7 @@ use Rattle.ticks.proofs.Hearing.{Hearing, hearing-none, hearing-tick, h
 use Rattle.ticks.proofs.InPlace.{Packing, Heard}
 use Rattle.ticks.proofs.Indices.{Number, Ends, Place, number-of, ends-of, place-of, place-before, number-fits, name-fits, next-number-fits, row-fits, station-fits, sent-fits, link-low, link-fits, places-fit, place-low, place-fits, message-fits, next-place-fits, left-falls, tick-fits, next-low, all-done, none-low, row-start, used-more-fits, at-least, at-most, as-most, one-more, no-more, long-enough}
 use Rattle.ticks.proofs.Reading.{Reading, reading-none, reading-keeps, reading-hears, reading-passes}
-use Rattle.ticks.proofs.Run.{Going, going-first, going-done, going-ticking, going-on}
+use Rattle.ticks.proofs.Run.{Going, going-first, going-done, going-ticking, going-on, going-still}
 use Rattle.ticks.proofs.Silent.{Silent, silent-none, silent-marks, silent-leaves, silent-row, silent-stores, silent-sets, silent-sends, Gone, gone-more, gone-stores}
 use Rattle.ticks.proofs.Taken.{Taken, taken-none, taken-row, taken-rests, none-before, taken-few, taken-skips, link-used-is, link-wide, link-taken, link-heard, none-heard}
 use Rattle.ticks.proofs.Whole.{part-first, run-tick, run-calm}
@@ -43,53 +45,53 @@ abbrev μ-loop : tie.MeasureT-loop
 μ-loop t s end n empty busy₀ q₀ busy q = n - q
 
 abbrev Inv-loop6 : tie.InvT-loop6
-Inv-loop6 t s₀ end n empty busy now until₀ q more₀ p k u to₀ i₀ s until more to i =
+Inv-loop6 t s₀ end n empty busy quiet now until₀ q more₀ p k u to₀ i₀ s until more to i =
     (i ≤ u) × (u ≤ places) × (now ≤ until) × (until ≤ until₀) × (to ≤ i) × Reading q p k now s₀ s until to i
     × (more ≡ false → (more₀ ≡ false) × (to ≡ 0))
 
 abbrev μ-loop6 : tie.MeasureT-loop6
-μ-loop6 t s₀ end n empty busy now until₀ q more₀ p k u to₀ i₀ s until more to i = u - i
+μ-loop6 t s₀ end n empty busy quiet now until₀ q more₀ p k u to₀ i₀ s until more to i = u - i
 
 abbrev Inv-loop7 : tie.InvT-loop7
-Inv-loop7 t s₀ end n empty busy now until q more p k u to j₀ s j = (to ≤ j) × (j ≤ u) × (u ≤ places) × Clearing k s₀ s to j
+Inv-loop7 t s₀ end n empty busy quiet now until q more p k u to j₀ s j = (to ≤ j) × (j ≤ u) × (u ≤ places) × Clearing k s₀ s to j
 
 abbrev μ-loop7 : tie.MeasureT-loop7
-μ-loop7 t s₀ end n empty busy now until q more p k u to j₀ s j = u - j
+μ-loop7 t s₀ end n empty busy quiet now until q more p k u to j₀ s j = u - j
 
 abbrev Inv-loop5 : tie.InvT-loop5
-Inv-loop5 t s₀ end n empty busy now until₀ q more₀ p₀ s until more p =
-    (p ≤ n) × (now ≤ until) × (until ≤ end) × Wide s × Silent n (s .used) busy (8 * n) × Gone (s .used) q p more
+Inv-loop5 t s₀ end n empty busy quiet now until₀ q more₀ p₀ s until more p =
+    (p ≤ n) × (now ≤ until) × (until ≤ lastTick) × Wide s × Silent n (s .used) busy (8 * n) × Gone (s .used) q p more
     × ((r : System) → Taken n now r until₀ (systemOf s₀ .links) (8 * q) → Hearing r n 0 q (systemOf s₀) → Taken n now r until (systemOf s .links) (8 * q + p) × Hearing r n p q (systemOf s))
 
 abbrev μ-loop5 : tie.MeasureT-loop5
-μ-loop5 t s₀ end n empty busy now until₀ q more₀ p₀ s until more p = n - p
+μ-loop5 t s₀ end n empty busy quiet now until₀ q more₀ p₀ s until more p = n - p
 
 abbrev Inv-loop4 : tie.InvT-loop4
-Inv-loop4 t s₀ end n empty busy₀ now until₀ q₀ s busy until q =
-    (q ≤ n) × (now ≤ until) × (until ≤ end) × Wide s × Taken n now (systemOf s₀) until (systemOf s .links) (8 * q) × Hearing (systemOf s₀) n 0 q (systemOf s) × Silent n (s .used) busy (8 * n)
+Inv-loop4 t s₀ end n empty busy₀ quiet now until₀ q₀ s busy until q =
+    (q ≤ n) × (now ≤ until) × (until ≤ lastTick) × Wide s × Taken n now (systemOf s₀) until (systemOf s .links) (8 * q) × Hearing (systemOf s₀) n 0 q (systemOf s) × Silent n (s .used) busy (8 * n)
 
 abbrev μ-loop4 : tie.MeasureT-loop4
-μ-loop4 t s₀ end n empty busy₀ now until₀ q₀ s busy until q = n - q
+μ-loop4 t s₀ end n empty busy₀ quiet now until₀ q₀ s busy until q = n - q
 
 abbrev Inv-loop9 : tie.InvT-loop9
-Inv-loop9 t s₀ end n empty busy now until₀ p counts q₀ s until q =
-    (q ≤ n) × (now ≤ until) × (until ≤ end) × Wide s × Silent n (s .used) busy (8 * n) × (getD busy p false ≡ true)
+Inv-loop9 t s₀ end n empty busy quiet now until₀ p counts q₀ s until q =
+    (q ≤ n) × (now ≤ until) × (until ≤ lastTick) × Wide s × Silent n (s .used) busy (8 * n) × (getD busy p false ≡ true)
     × ((σ : System) → Chances n now σ until₀ s₀ (p + 1) p p (8 * p) → Chances n now σ until s (p + 1) p p (8 * p + q))
 
 abbrev μ-loop9 : tie.MeasureT-loop9
-μ-loop9 t s₀ end n empty busy now until₀ p counts q₀ s until q = n - q
+μ-loop9 t s₀ end n empty busy quiet now until₀ p counts q₀ s until q = n - q
 
 abbrev Inv-loop8 : tie.InvT-loop8
-Inv-loop8 t s₀ end n empty busy₀ now until₀ p₀ s busy until p = (p ≤ n) × (now ≤ until) × Turn n now (systemOf s₀) end until s busy p p p (8 * p)
+Inv-loop8 t s₀ end n empty busy₀ quiet now until₀ p₀ s busy until p = (p ≤ n) × (now ≤ until) × Turn n now (systemOf s₀) lastTick until s busy p p p (8 * p)
 
 abbrev μ-loop8 : tie.MeasureT-loop8
-μ-loop8 t s₀ end n empty busy₀ now until₀ p₀ s busy until p = n - p
+μ-loop8 t s₀ end n empty busy₀ quiet now until₀ p₀ s busy until p = n - p
 
 abbrev Inv-loop3 : tie.InvT-loop3
-Inv-loop3 t s₀ end n empty busy₀ s busy = (n ≤ 8) × (end ≤ lastTick) × (s .tick ≤ end) × Going t (systemOf s₀) (systemOf s) × Wide s × Silent n (s .used) busy (8 * n)
+Inv-loop3 t s₀ end n empty busy₀ quiet₀ s busy quiet = (n ≤ 8) × (end ≤ lastTick) × (s .tick ≤ end) × Going t (systemOf s₀) (systemOf s) × Wide s × Silent n (s .used) busy (8 * n) × Still quiet (systemOf s)
 
 abbrev μ-loop3 : tie.MeasureT-loop3
-μ-loop3 t s₀ end n empty busy₀ s busy = end - s .tick
+μ-loop3 t s₀ end n empty busy₀ quiet₀ s busy quiet = end - s .tick
 
 -- the links that are marked, and of the sender and the receiver that are on
 marked-link : (c : tie.In-loop2 Inv-loop2 μ-loop2 Inv-loop μ-loop Inv-loop6 μ-loop6 Inv-loop7 μ-loop7 Inv-loop5 μ-loop5 Inv-loop4 μ-loop4 Inv-loop9 μ-loop9 Inv-loop8 μ-loop8 Inv-loop3 μ-loop3) → Ends (c .before .before .before .loop .q) (c .before .loop2 .p)
@@ -158,7 +160,7 @@ loop3-holds c =
     let size : length (s .messages) ≡ 64 * places = simp length-map at (owned .1 .0 .1) in
     let held = held-of s stations sent (λ j h. counts-owned (s .messages) (owned .0) (owned .1 .1) j (omega arith)) (c .before .before .before .pre .0) (c .before .before .before .pre .1) in
     let zq : c .before .loop .q ≡ s .n = omega (arith, i .1, c .loop-test .left) in
-    (i .0, c .before .before .before .pre .2, omega arith, going-first _ _ (c .before .before .before .pre .0) (c .before .before .before .pre .1) held (c .before .before .before .pre .2), record { used = simp length-map at (c .before .before .before .good .1 .0 .1 .1 .1 .1 .1 .1 .1 .1 .1 .0 .1 .0 .1); messages = size }, subst (λ (j : ℕ). Silent (s .n) (s .used) (c .before .loop .busy) (8 * j)) zq (i .2))
+    (i .0, c .before .before .before .pre .2, omega arith, going-first _ _ (c .before .before .before .pre .0) (c .before .before .before .pre .1) held (c .before .before .before .pre .2), record { used = simp length-map at (c .before .before .before .good .1 .0 .1 .1 .1 .1 .1 .1 .1 .1 .1 .0 .1 .0 .1); messages = size }, subst (λ (j : ℕ). Silent (s .n) (s .used) (c .before .loop .busy) (8 * j)) zq (i .2), still-none (systemOf s))
 
 loop4-holds : tie.Need-loop4-holds Inv-loop2 μ-loop2 Inv-loop μ-loop Inv-loop6 μ-loop6 Inv-loop7 μ-loop7 Inv-loop5 μ-loop5 Inv-loop4 μ-loop4 Inv-loop9 μ-loop9 Inv-loop8 μ-loop8 Inv-loop3 μ-loop3
 loop4-holds c =
@@ -368,7 +370,7 @@ expire-requires c κs =
     timer-ready r n _ (systemOf (c .before .before .before .before .before .before .before .loop4 .s)) (i4 .5) z (i .3 .size) (going-ticking _ _ r (i .3) (c .before .before .before .before .before .before .before .before .loop3-test .taken)) p hp _ (c .before .before .before .before .before .loop8 .inv .2 .chances .rest p (omega arith)) (sym (c .before .before .timer-ends .ensures) ∙ c .before .if6 .taken)
 
 -- the station's timer is done
-timed : (c : tie.Joined6 Inv-loop2 μ-loop2 Inv-loop μ-loop Inv-loop6 μ-loop6 Inv-loop7 μ-loop7 Inv-loop5 μ-loop5 Inv-loop4 μ-loop4 Inv-loop9 μ-loop9 Inv-loop8 μ-loop8 Inv-loop3 μ-loop3) → Turn (c .before .before .before .before .before .before .before .before .before .before .before .before .args .t2 .n) (c .before .before .before .before .before .before .before .before .loop3 .s .tick + 1) (systemOf (c .before .before .before .before .before .before .loop4 .s)) (c .before .before .before .before .before .before .before .before .before .before .before .before .args .t2 .tick + c .before .before .before .before .before .before .before .before .before .before .before .before .args .t) (c .before .before .before .before .loop8 .until) (c .if6 .s) (c .before .before .before .before .loop8 .busy) (c .before .before .before .before .loop8 .p + 1) (c .before .before .before .before .loop8 .p) (c .before .before .before .before .loop8 .p) (8 * c .before .before .before .before .loop8 .p)
+timed : (c : tie.Joined6 Inv-loop2 μ-loop2 Inv-loop μ-loop Inv-loop6 μ-loop6 Inv-loop7 μ-loop7 Inv-loop5 μ-loop5 Inv-loop4 μ-loop4 Inv-loop9 μ-loop9 Inv-loop8 μ-loop8 Inv-loop3 μ-loop3) → Turn (c .before .before .before .before .before .before .before .before .before .before .before .before .args .t2 .n) (c .before .before .before .before .before .before .before .before .loop3 .s .tick + 1) (systemOf (c .before .before .before .before .before .before .loop4 .s)) lastTick (c .before .before .before .before .loop8 .until) (c .if6 .s) (c .before .before .before .before .loop8 .busy) (c .before .before .before .before .loop8 .p + 1) (c .before .before .before .before .loop8 .p) (c .before .before .before .before .loop8 .p) (8 * c .before .before .before .before .loop8 .p)
 timed c =
     ⊎-elim
     (λ w. turn-ends _ _ _ _ _ (c .before .before .before .before .loop8 .s) _ _ (c .before .before .before .loop8-test .taken) (c .before .before .before .before .before .before .before .before .loop3 .inv .0) (c .before .before .before .before .loop8 .inv .2) _ _ (sym (c .before .timer-ends .ensures) ∙ w .0 .taken) (w .2 .ensures) (w .3))
@@ -394,7 +396,7 @@ free-place c =
     }
 
 -- it has sent, or it does not send
-rowed : (c : tie.Joined8 Inv-loop2 μ-loop2 Inv-loop μ-loop Inv-loop6 μ-loop6 Inv-loop7 μ-loop7 Inv-loop5 μ-loop5 Inv-loop4 μ-loop4 Inv-loop9 μ-loop9 Inv-loop8 μ-loop8 Inv-loop3 μ-loop3) → Turn (c .before .before .before .before .before .before .before .before .before .before .before .before .before .before .before .before .args .t2 .n) (c .before .before .before .before .before .before .before .before .before .before .before .before .loop3 .s .tick + 1) (systemOf (c .before .before .before .before .before .before .before .before .before .before .loop4 .s)) (c .before .before .before .before .before .before .before .before .before .before .before .before .before .before .before .before .args .t2 .tick + c .before .before .before .before .before .before .before .before .before .before .before .before .before .before .before .before .args .t) (c .if8 .until) (c .if8 .s) (c .if8 .busy) (c .before .before .before .before .before .before .before .before .loop8 .p + 1) (c .before .before .before .before .before .before .before .before .loop8 .p) (c .before .before .before .before .before .before .before .before .loop8 .p + 1) (8 * (c .before .before .before .before .before .before .before .before .loop8 .p + 1))
+rowed : (c : tie.Joined8 Inv-loop2 μ-loop2 Inv-loop μ-loop Inv-loop6 μ-loop6 Inv-loop7 μ-loop7 Inv-loop5 μ-loop5 Inv-loop4 μ-loop4 Inv-loop9 μ-loop9 Inv-loop8 μ-loop8 Inv-loop3 μ-loop3) → Turn (c .before .before .before .before .before .before .before .before .before .before .before .before .before .before .before .before .args .t2 .n) (c .before .before .before .before .before .before .before .before .before .before .before .before .loop3 .s .tick + 1) (systemOf (c .before .before .before .before .before .before .before .before .before .before .loop4 .s)) lastTick (c .if8 .until) (c .if8 .s) (c .if8 .busy) (c .before .before .before .before .before .before .before .before .loop8 .p + 1) (c .before .before .before .before .before .before .before .before .loop8 .p) (c .before .before .before .before .before .before .before .before .loop8 .p + 1) (8 * (c .before .before .before .before .before .before .before .before .loop8 .p + 1))
 rowed c =
     let n = c .before .before .before .before .before .before .before .before .before .before .before .before .before .before .before .before .args .t2 .n in
     let hn : n ≤ 8 = c .before .before .before .before .before .before .before .before .before .before .before .before .loop3 .inv .0 in
@@ -402,14 +404,13 @@ rowed c =
     let σ = systemOf (c .before .before .before .before .before .before .before .before .before .before .loop4 .s) in
     let p = c .before .before .before .before .before .before .before .before .loop8 .p in
     let hp : p < n = c .before .before .before .before .before .before .before .loop8-test .taken in
-    let end = c .before .before .before .before .before .before .before .before .before .before .before .before .before .before .before .before .args .t2 .tick + c .before .before .before .before .before .before .before .before .before .before .before .before .before .before .before .before .args .t in
     let ch = timed (c .before .before .before .before) in
     let says = chances-says n now σ _ _ p p _ (ch .chances) hp _ (c .before .sends-now .ensures) in
     ⊎-elim
     (λ v.
     let i9 = v .3 .inv in
-    turn-sends n now σ end (v .3 .until) (v .3 .s) (set (c .before .before .before .before .before .before .before .before .loop8 .busy) p true) p hp hn (v .3 .q) (all-done _ _ (i9 .0) (v .4 .left)) (record { high = i9 .2; wide = i9 .3; silent = i9 .4; chances = i9 .6 σ (ch .chances) }) (sym says ∙ v .0 .taken) _ _ _ _ (v .6 .ensures) (v .7) (v .8) (v .9))
-    (λ v. turn-rests n now σ end _ _ _ p hp hn ch (sym says ∙ v .0 .left) _ _ _ (v .1) (v .2) (v .3))
+    turn-sends n now σ lastTick (v .3 .until) (v .3 .s) (set (c .before .before .before .before .before .before .before .before .loop8 .busy) p true) p hp hn (v .3 .q) (all-done _ _ (i9 .0) (v .4 .left)) (record { high = i9 .2; wide = i9 .3; silent = i9 .4; chances = i9 .6 σ (ch .chances) }) (sym says ∙ v .0 .taken) _ _ _ _ (v .6 .ensures) (v .7) (v .8) (v .9))
+    (λ v. turn-rests n now σ lastTick _ _ _ p hp hn ch (sym says ∙ v .0 .left) _ _ _ (v .1) (v .2) (v .3))
     (c .if8 .came)
 
 loop9-holds : tie.Need-loop9-holds Inv-loop2 μ-loop2 Inv-loop μ-loop Inv-loop6 μ-loop6 Inv-loop7 μ-loop7 Inv-loop5 μ-loop5 Inv-loop4 μ-loop4 Inv-loop9 μ-loop9 Inv-loop8 μ-loop8 Inv-loop3 μ-loop3
@@ -487,37 +488,41 @@ loop8-again c =
     let σ = systemOf (c .before .before .before .before .before .before .before .before .before .loop4 .s) in
     let p = c .before .before .before .before .before .before .before .loop8 .p in
     let hp : p < n = c .before .before .before .before .before .before .loop8-test .taken in
-    let end = c .before .before .before .before .before .before .before .before .before .before .before .before .before .before .before .args .t2 .tick + c .before .before .before .before .before .before .before .before .before .before .before .before .before .before .before .args .t in
     let ch = timed (c .before .before .before) in
     let quiet = c .quiet-station .ensures in
     ⊎-elim
     (λ w.
     let row = rowed (record { before = record { before = record { before = record { before = c .before .before .before; if7 = w .0 }; sends-now-arg = w .1 }; sends-now = w .2 }; if8 = w .3 }) in
-    (next-low _ _ hp, quiet .0, turn-slots n now σ end (w .3 .until) (w .3 .s) (w .3 .busy) p hp hn _ _ row _ _ _ _ (w .8) (quiet .1) (w .7) (quiet .2) _ _ (chances-station n now σ _ _ p p _ (ch .chances) hp) (w .0 .taken) (w .5 .ensures) (w .6)))
+    (next-low _ _ hp, quiet .0, turn-slots n now σ lastTick (w .3 .until) (w .3 .s) (w .3 .busy) p hp hn _ _ row _ _ _ _ (w .8) (quiet .1) (w .7) (quiet .2) _ _ (chances-station n now σ _ _ p p _ (ch .chances) hp) (w .0 .taken) (w .5 .ensures) (w .6)))
     (λ w.
-    let row = turn-rests n now σ end _ _ _ p hp hn ch (chances-late n now σ _ _ p p _ (ch .chances) hp (w .0 .left)) _ _ _ refl refl refl in
-    (next-low _ _ hp, quiet .0, turn-waits n now σ end _ _ _ p hp hn _ _ row _ _ _ _ (w .3) (quiet .1) (w .2) (quiet .2) (w .0 .left) (w .1)))
+    let row = turn-rests n now σ lastTick _ _ _ p hp hn ch (chances-late n now σ _ _ p p _ (ch .chances) hp (w .0 .left)) _ _ _ refl refl refl in
+    (next-low _ _ hp, quiet .0, turn-waits n now σ lastTick _ _ _ p hp hn _ _ row _ _ _ _ (w .3) (quiet .1) (w .2) (quiet .2) (w .0 .left) (w .1)))
     (c .before .before .if7 .came)
 
 loop3-again : tie.Need-loop3-again Inv-loop2 μ-loop2 Inv-loop μ-loop Inv-loop6 μ-loop6 Inv-loop7 μ-loop7 Inv-loop5 μ-loop5 Inv-loop4 μ-loop4 Inv-loop9 μ-loop9 Inv-loop8 μ-loop8 Inv-loop3 μ-loop3
 unfolding atTick
 loop3-again c =
-    let i = c .before .before .before .before .before .loop3 .inv in
-    let i4 = c .before .before .before .loop4 .inv in
-    let r = systemOf (c .before .before .before .before .before .loop3 .s) in
-    let n = c .before .before .before .before .before .before .before .before .before .args .t2 .n in
-    let σ = systemOf (c .before .before .before .loop4 .s) in
-    let zq : c .before .before .before .loop4 .q ≡ n = omega (arith, i4 .0, c .before .before .loop4-test .left) in
-    let parts = c .before .loop8 .inv in
-    let zp : c .before .loop8 .p ≡ n = omega (arith, parts .0, c .loop8-test .left) in
-    let all = chances-done n _ σ _ (c .before .loop8 .s) _ (parts .2 .chances) zp (i .0) in
-    let tick = run-tick r n _ _ σ (length-links _ _) (i4 .4) zq (i4 .5) (systemOf (c .before .loop8 .s)) (c .before .loop8 .until) all in
-    let calm = run-calm r n _ _ σ (length-links _ _) (i4 .4) zq (i4 .5) (systemOf (c .before .loop8 .s)) (c .before .loop8 .until) all in
-    (i .0, i .1, parts .2 .high, subst (Going _ _) (sym tick) (going-on _ _ r (i .3) (c .before .before .before .before .loop3-test .taken) _ (parts .1) (parts .2 .high) calm), record { used = parts .2 .wide .used; messages = parts .2 .wide .messages }, parts .2 .silent)
+    let i = c .before .before .before .before .before .before .loop3 .inv in
+    let i4 = c .before .before .before .before .loop4 .inv in
+    let r = systemOf (c .before .before .before .before .before .before .loop3 .s) in
+    let n = c .before .before .before .before .before .before .before .before .before .before .args .t2 .n in
+    let σ = systemOf (c .before .before .before .before .loop4 .s) in
+    let zq : c .before .before .before .before .loop4 .q ≡ n = omega (arith, i4 .0, c .before .before .before .loop4-test .left) in
+    let parts = c .before .before .loop8 .inv in
+    let zp : c .before .before .loop8 .p ≡ n = omega (arith, parts .0, c .before .loop8-test .left) in
+    let all = chances-done n _ σ _ (c .before .before .loop8 .s) _ (parts .2 .chances) zp (i .0) in
+    let until = c .before .before .loop8 .until in
+    let to = c .least .result in
+    let tick = ap (atTick to) (run-tick r n _ _ σ (length-links _ _) (i4 .4) zq (i4 .5) (systemOf (c .before .before .loop8 .s)) until all) in
+    let calm = run-calm r n _ _ σ (length-links _ _) (i4 .4) zq (i4 .5) (systemOf (c .before .before .loop8 .s)) until all in
+    let (by, high, most) = c .least .ensures in
+    let before = c .before .before .before .before .before .loop3-test .taken in
+    let low = most _ (parts .1) (omega (arith, before)) in
+    (i .0, i .1, high, subst (Going _ _) (sym tick) (going-on _ _ r (i .3) before until to low high by calm), record { used = parts .2 .wide .used; messages = parts .2 .wide .messages }, parts .2 .silent, subst (Still until) (sym tick) (going-still _ _ r (i .3) before until to low high by calm))
 
 returns : tie.Need-returns Inv-loop2 μ-loop2 Inv-loop μ-loop Inv-loop6 μ-loop6 Inv-loop7 μ-loop7 Inv-loop5 μ-loop5 Inv-loop4 μ-loop4 Inv-loop9 μ-loop9 Inv-loop8 μ-loop8 Inv-loop3 μ-loop3
 returns c =
-    going-done _ _ _ (c .before .loop3 .inv .3) (c .loop3-test .left)
+    (going-done _ _ _ (c .before .loop3 .inv .3) (c .loop3-test .left), c .before .loop3 .inv .6)
 
 pub run-spec : {M : Type 1} → statement M
 run-spec =
@@ -671,6 +676,7 @@ run-spec =
     (λ c. next-number-fits (station (c .before .before .before .before .before .before)))
     (λ c. left-falls _ _ (c .before .before .before .before .before .before .loop8-test .taken))
     loop8-again
-    (λ c. search needs)
+    (λ c κs. search needs)
+    (λ c. omega (arith, c .least .ensures .2 _ (c .before .before .loop8 .inv .1) (omega (arith, c .before .before .before .before .before .loop3-test .taken))))
     loop3-again
     returns)
