@@ -6,11 +6,11 @@ ghost use Prim.Native.Nat.{_+_, _*_, _-_, _<_, _≤_};
 ghost use lib.ListN.{getD};
 ghost use Rattle.lists.specs.First.{firstFailed};
 ghost use Rattle.fit.specs.Fit.{within};
-ghost use Rattle.election.specs.Commands.{SetUp, Start, Crash, Link, Run, Lose, Report, decode, ruling, tests};
+ghost use Rattle.election.specs.Commands.{Command, SetUp, Start, Crash, Link, Run, Lose, Report, decode, ruling, tests};
 ghost use Rattle.election.specs.Sound.{sound};
 ghost use Rattle.election.specs.System.{station};
 ghost use Rattle.election.specs.declared.System.{System};
-ghost use Rattle.decision.specs.Decided.{Sees, decided, meaning};
+ghost use Rattle.decision.specs.Decided.{Taken, Sees, decided, meaning};
 use crate::widths::width;
 use election::Refusal;
 use station::Station;
@@ -97,9 +97,9 @@ fn crash(ready: bool, n: u8, x: Station, p: u8) -> Decision
     Decision::Crash(p)
 }
 
-// A link gets a delay; every byte is one.
-fn link(ready: bool, n: u8, from: u8, to: u8, delay: u8) -> Decision
-    ensures { λ r. ⌜ ((s : System) → s .ready ≡ ready → s .n ≡ n → meaning r ≡ decided (firstFailed (tests s (Link from to delay))) (Link from to delay)) ⌝ }
+// What is to be taken of a command about the link between two stations, once these are in range and differ.
+fn between(ready: bool, n: u8, from: u8, to: u8, taken: Decision) -> Decision
+    ensures { λ r. ⌜ ((s : System) (c : Command) → s .ready ≡ ready → s .n ≡ n → meaning taken ≡ Taken c → meaning r ≡ decided (firstFailed (tests s (Lose from to))) c) ⌝ }
 {
     if !ready {
         return Decision::Refused(Refusal::NotSetUp);
@@ -110,7 +110,14 @@ fn link(ready: bool, n: u8, from: u8, to: u8, delay: u8) -> Decision
     if from == to {
         return Decision::Refused(Refusal::SameStation);
     }
-    Decision::Link { from, to, delay }
+    taken
+}
+
+// A link gets a delay; every byte is one.
+fn link(ready: bool, n: u8, from: u8, to: u8, delay: u8) -> Decision
+    ensures { λ r. ⌜ ((s : System) → s .ready ≡ ready → s .n ≡ n → meaning r ≡ decided (firstFailed (tests s (Link from to delay))) (Link from to delay)) ⌝ }
+{
+    between(ready, n, from, to, Decision::Link { from, to, delay })
 }
 
 // The tick that a run leads to.
@@ -140,16 +147,7 @@ fn run(ready: bool, tick: u32, t: u32) -> Decision
 fn lose(ready: bool, n: u8, from: u8, to: u8) -> Decision
     ensures { λ r. ⌜ ((s : System) → s .ready ≡ ready → s .n ≡ n → meaning r ≡ decided (firstFailed (tests s (Lose from to))) (Lose from to)) ⌝ }
 {
-    if !ready {
-        return Decision::Refused(Refusal::NotSetUp);
-    }
-    if !are_stations(n, from, to) {
-        return Decision::Refused(Refusal::StationRange);
-    }
-    if from == to {
-        return Decision::Refused(Refusal::SameStation);
-    }
-    Decision::Lose { from, to }
+    between(ready, n, from, to, Decision::Lose { from, to })
 }
 
 // A report, once the system is set up.

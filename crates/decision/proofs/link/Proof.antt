@@ -1,33 +1,17 @@
 -- The function link meets its contract.
-use Rattle.lists.proofs.Bools.{holds, fails}
-use Rattle.fit.specs.Fit.{longestDelay}
-use borrow.Author.Tests.{not-true, not-false, le-leb, eq-eqb, ne-eqb}
+use mathlib.Core.Path.{refl}
 use native.Mathlib.Omega.{arith}
 use borrow.Author.Needs.{needs}
+use borrow.Author.Tests.{le-leb}
+use Rattle.fit.specs.Fit.{longestDelay}
+use Rattle.election.specs.Commands.{Link}
 use Rattle.decision.proofs.link.Statement.{statement}
 use Rattle.decision.proofs.link.Tie as tie
 
 returns : tie.Need-returns
-returns c s e f = rw (e, not-true (c .before .args .ready) (c .if1 .taken))
-
-returns-2 : tie.Need-returns-2
-returns-2 c s e f =
-    let ready = not-false (c .before .before .before .args .ready) (c .before .before .if1 .left) in
-    rw (e, f, ready, fails (c .before .are-stations .ensures) (c .if2 .taken))
-
-returns-3 : tie.Need-returns-3
-returns-3 c s e f =
-    let a = c .before .before .before .before .args in
-    let ready = not-false (a .ready) (c .before .before .before .if1 .left) in
-    let inside = holds (c .before .before .are-stations .ensures) (c .before .if2 .left) in
-    rw (e, f, ready, inside, eq-eqb (a .from) (a .to) (c .if3 .taken))
-
-returns-4 : tie.Need-returns-4
-returns-4 c s e f =
-    let a = c .before .before .before .before .args in
-    let ready = not-false (a .ready) (c .before .before .before .if1 .left) in
-    let inside = holds (c .before .before .are-stations .ensures) (c .before .if2 .left) in
-    rw (e, f, ready, inside, ne-eqb (a .from) (a .to) (c .if3 .left), le-leb (a .delay) longestDelay (omega arith))
+returns c s e f =
+    let a = c .before .args in
+    rw (le-leb (a .delay) longestDelay (omega arith)) (c .between .ensures s (Link (a .from) (a .to) (a .delay)) e f refl)
 
 pub link-spec : {M : Type 1} → statement M
-link-spec = tie.close (tie.spec returns (λ c κs. search needs) returns-2 returns-3 returns-4)
+link-spec = tie.close (tie.spec (λ c κs. search needs) returns)
