@@ -182,14 +182,20 @@ static void do_tick(void) {
     }
 }
 
-// Ticks at which nothing is due are passed over.
+// Up to this tick nothing is due; a start sets it back.
+static uint32_t quiet;
+
+// Ticks at which nothing is due are passed over, also from one run to the next.
 static void run(uint32_t ticks) {
     uint32_t end = tick + ticks;
+    if (end <= quiet)
+        tick = end;
     while (tick < end) {
         tick++;
-        next_due = end + 1;
+        next_due = MAX_TICK + 1;
         do_tick();
-        tick = next_due - 1;
+        quiet = next_due - 1;
+        tick = quiet < end ? quiet : end;
     }
 }
 
@@ -285,6 +291,7 @@ static int do_command(const uint8_t *bytes, size_t length) {
         if (station[operand[0]].up) return 8;
         if (station[operand[0]].incarnation == MAX_INCARNATION) return 10;
         start(operand[0]);
+        quiet = 0;
         break;
     case CRASH:
         if (!is_station(operand[0])) return 7;

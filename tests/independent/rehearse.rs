@@ -1,5 +1,5 @@
-// Document 01 once more, with document 02's changes, in plain Rust: reads a schedule from standard input, does its commands tick by tick and
-// prints what the rehearsal program must print. Written from the paper alone; tests/compare holds the product to it.
+// Document 01 once more, with Paper 1 of document 02, in plain Rust: reads a schedule from standard input, does its commands tick by tick and
+// prints what the rehearsal program must print. Written from the papers alone; tests/compare holds the product to it.
 
 use std::io::{self, BufWriter, Read, Write};
 

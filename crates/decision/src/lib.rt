@@ -97,7 +97,7 @@ fn crash(ready: bool, n: u8, x: Station, p: u8) -> Decision
     Decision::Crash(p)
 }
 
-// What is to be taken of a command about the link between two stations, once these are in range and differ.
+// A command about a link: as it is handed over to be taken, unless it is turned down for its two stations.
 fn between(ready: bool, n: u8, from: u8, to: u8, taken: Decision) -> Decision
     ensures { λ r. ⌜ ((s : System) (c : Command) → s .ready ≡ ready → s .n ≡ n → meaning taken ≡ Taken c → meaning r ≡ decided (firstFailed (tests s (Lose from to))) c) ⌝ }
 {

@@ -102,7 +102,7 @@ module _ (n period tick : ℕ) (sender : Station) (l : Link) where
   linked-spaced f =
       spaced-take 0 (l .used) (l .messages) (λ k h. within-list (λ (m : Message). tick < m .due) (l .messages) k noMessage (λ i. omega arith) (f .held k h .due-after)) (f .held) (f .apart) (λ h. omega arith)
 
--- what a link that holds no more messages than it has places has at them
+-- what stands at the places of a link that holds messages, no more than it has places
 module _ (ms : List Message) (h : length ms ≤ places) where
   pub holding-used : holding ms .used ≡ length ms
   unfolding holding

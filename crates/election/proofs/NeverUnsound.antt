@@ -1,23 +1,21 @@
 -- A schedule never meets an unsound system.
 use mathlib.Core.Path.{_≡_}
 use mathlib.Core.Logic.{_≢_}
-use mathlib.Core.List.{List, [], _∷_}
+use mathlib.Core.List.{List}
 use mathlib.Core.Bool.{true, false}
 use Prim.Native.Nat.{ℕ}
 use native.Mathlib.Omega.{arith}
-use lib.ListN.{length, getD}
+use lib.ListN.{length}
 use lib.Dec.{ltb}
 use Rattle.lists.specs.Every.{All}
 use Rattle.lists.proofs.Bools.{cond-elim}
-use Rattle.lists.proofs.First.{first-is}
-use Rattle.fit.specs.Fit.{within}
 use Rattle.election.specs.Claims.{NeverUnsound}
-use Rattle.election.specs.Commands.{Command, SetUp, Start, Crash, Link, Run, Lose, Report, decode, operands, tests, refusal, command}
+use Rattle.election.specs.Commands.{Command, SetUp, Start, Crash, Link, Run, Lose, Report, decode, tests, refusal, command}
 use Rattle.election.specs.Schedule.{End, mostBytes, schedule}
 use Rattle.election.specs.Sound.{sound}
 use Rattle.election.specs.System.{fresh}
 use Rattle.election.specs.declared.System.{System}
-use Rattle.election.proofs.Follow.{follow-refusal}
+use Rattle.election.proofs.Follow.{ruling-is, follow-refusal}
 use Rattle.election.proofs.InitialSound.{fresh-sound}
 use Rattle.election.proofs.KeepsSound.{keeps-sound}
 
@@ -35,9 +33,7 @@ tests-other s Report = omega arith
 sound-other : (s : System) (bytes : List ℕ) → sound s ≡ true → command s bytes .refusal ≢ 15
 unfolding command refusal
 sound-other s bytes e =
-    rw e
-    (first-is (λ k. k ≢ 15) (omega arith) ((ltb 0 (length bytes), 2) ∷ (within 1 (getD bytes 0 0) 7, 1) ∷ (ltb (operands (decode bytes)) (length bytes), 2) ∷ tests s (decode bytes))
-    (omega arith, (omega arith, (omega arith, tests-other s (decode bytes)))))
+    rw e (ruling-is (λ k. k ≢ 15) (omega arith) (omega arith) (omega arith) s bytes (tests-other s (decode bytes)))
 
 pub never-unsound : NeverUnsound
 unfolding schedule

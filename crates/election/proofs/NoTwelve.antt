@@ -1,7 +1,7 @@
 -- No byte is too long a delay: refusal 12 never occurs.
 use mathlib.Core.Path.{_≡_, sym, _∙_}
 use mathlib.Core.Logic.{_≢_}
-use mathlib.Core.List.{List, [], _∷_}
+use mathlib.Core.List.{List}
 use mathlib.Core.Bool.{false, true≢false}
 use Prim.Native.Nat.{ℕ, _<_, _≤_}
 use native.Mathlib.Omega.{arith}
@@ -11,15 +11,14 @@ use borrow.Author.Tests.{le-leb}
 use Rattle.lists.specs.Every.{All}
 use Rattle.lists.proofs.Bools.{cond-elim}
 use Rattle.lists.proofs.Every.{all-drop, all-get}
-use Rattle.lists.proofs.First.{first-is}
-use Rattle.fit.specs.Fit.{within, longestDelay}
+use Rattle.fit.specs.Fit.{longestDelay}
 use Rattle.election.specs.Claims.{NoTwelve}
-use Rattle.election.specs.Commands.{Command, SetUp, Start, Crash, Link, Run, Lose, Report, decode, operands, tests, refusal, command}
+use Rattle.election.specs.Commands.{Command, SetUp, Start, Crash, Link, Run, Lose, Report, Bytes, decode, tests, refusal, command}
 use Rattle.election.specs.Schedule.{End, mostBytes, schedule}
 use Rattle.election.specs.Sound.{sound}
 use Rattle.election.specs.System.{fresh}
 use Rattle.election.specs.declared.System.{System}
-use Rattle.election.proofs.Follow.{follow-refusal}
+use Rattle.election.proofs.Follow.{ruling-is, follow-refusal}
 
 -- the delay of a link setting is not too long
 abbrev Short : Command → Type 0
@@ -31,7 +30,7 @@ Short (Run t) = Unit {0}
 Short (Lose p q) = Unit {0}
 Short Report = Unit {0}
 
-short : (bytes : List ℕ) → All (λ b. b < 256) bytes → Short (decode bytes)
+short : (bytes : List ℕ) → Bytes bytes → Short (decode bytes)
 unfolding decode
 short bytes all =
     let b : ℕ = getD bytes 0 0 in
@@ -52,20 +51,18 @@ tests-other s (Run t) h = omega arith
 tests-other s (Lose p q) h = omega arith
 tests-other s Report h = omega arith
 
-command-other : (s : System) (bytes : List ℕ) → All (λ b. b < 256) bytes → command s bytes .refusal ≢ 12
+command-other : (s : System) (bytes : List ℕ) → Bytes bytes → command s bytes .refusal ≢ 12
 unfolding command refusal
 command-other s bytes all =
     cond-elim (λ (k : ℕ). k ≢ 12) (sound s)
-    (λ e.
-    first-is (λ k. k ≢ 12) (omega arith) ((ltb 0 (length bytes), 2) ∷ (within 1 (getD bytes 0 0) 7, 1) ∷ (ltb (operands (decode bytes)) (length bytes), 2) ∷ tests s (decode bytes))
-    (λ f. omega arith, (λ f. omega arith, (λ f. omega arith, tests-other s (decode bytes) (short bytes all)))))
+    (λ e. ruling-is (λ k. k ≢ 12) (omega arith) (omega arith) (omega arith) s bytes (tests-other s (decode bytes) (short bytes all)))
     (λ e. omega arith)
 
-schedule-other : (bytes : List ℕ) → All (λ b. b < 256) bytes → schedule bytes .refusal ≢ 12
+schedule-other : (bytes : List ℕ) → Bytes bytes → schedule bytes .refusal ≢ 12
 unfolding schedule
 schedule-other bytes all =
     cond-elim (λ (x : End). x .refusal ≢ 12) (ltb mostBytes (length bytes)) (λ t. omega arith)
-    (λ t. follow-refusal (λ k. k ≢ 12) (λ s rest. All (λ b. b < 256) rest) (omega arith) command-other (λ s rest h e. all-drop (λ b. b < 256) (command s rest .length) rest h) (length bytes) fresh 0 bytes all)
+    (λ t. follow-refusal (λ k. k ≢ 12) (λ s rest. Bytes rest) (omega arith) command-other (λ s rest h e. all-drop (λ b. b < 256) (command s rest .length) rest h) (length bytes) fresh 0 bytes all)
 
 pub no-twelve : NoTwelve
 no-twelve = (command-other, schedule-other)

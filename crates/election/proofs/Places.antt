@@ -53,7 +53,7 @@ at-link f p q d hp hq =
 pub is-link : (n p q : ℕ) → In n p → In n q → p ≢ q → isLink n p q ≡ true
 is-link n p q hp hq ne = rw (lt-ltb (p - 1) n (omega (arith, hp .low, hp .high)), lt-ltb (q - 1) n (omega (arith, hq .low, hq .high)), ne-eqb p q ne)
 
--- a link that holds messages has them, where each has a place
+-- a link that holds messages has them
 pub messages-held : (ms : List Message) → messages (holding ms) ≡ ms
 unfolding messages holding
 messages-held ms = take-over (length ms) ms (replicate places _) refl

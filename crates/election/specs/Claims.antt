@@ -5,9 +5,8 @@ use mathlib.Core.List.{List}
 use mathlib.Core.Bool.{true, false}
 use Prim.Native.Nat.{ℕ, _<_, _≤_}
 use lib.ListN.{length}
-use Rattle.lists.specs.Every.{All}
 use Rattle.station.specs.Limits.{lastTick}
-use Rattle.election.specs.Commands.{command}
+use Rattle.election.specs.Commands.{Bytes, command}
 use Rattle.election.specs.Schedule.{schedule}
 use Rattle.election.specs.History.{commands, starts, isUp}
 use Rattle.election.specs.Sound.{sound}
@@ -41,8 +40,8 @@ NeverUnsound = (bytes : List ℕ) → schedule bytes .refusal ≢ 15
 -- no byte is too long a delay: refusal 12 never occurs
 abbrev pub NoTwelve : Type 0
 NoTwelve =
-    ((s : System) (bytes : List ℕ) → All (λ b. b < 256) bytes → command s bytes .refusal ≢ 12)
-    × ((bytes : List ℕ) → All (λ b. b < 256) bytes → schedule bytes .refusal ≢ 12)
+    ((s : System) (bytes : List ℕ) → Bytes bytes → command s bytes .refusal ≢ 12)
+    × ((bytes : List ℕ) → Bytes bytes → schedule bytes .refusal ≢ 12)
 
 -- accepted, a schedule answers its length
 abbrev pub AcceptedWhole : Type 0

@@ -1,9 +1,10 @@
 -- Commands of one byte, and what is turned down.
 use mathlib.Core.List.{List, [], _∷_}
 use mathlib.Core.Bool.{Bool, cond, not, _&&_}
-use Prim.Native.Nat.{ℕ, _+_, _*_}
+use Prim.Native.Nat.{ℕ, _+_, _*_, _<_}
 use lib.ListN.{length, getD}
 use lib.Dec.{leb, ltb, eqb}
+use Rattle.lists.specs.Every.{All}
 use Rattle.lists.specs.First.{firstFailed}
 use Rattle.fit.specs.Fit.{within, longestDelay}
 use Rattle.station.specs.Limits.{lastTick, mostStarts}
@@ -17,6 +18,10 @@ use Rattle.election.specs.declared.Commanded.{Commanded}
 use Rattle.election.specs.declared.Refusal.{Refusal}
 use Rattle.election.specs.declared.Refusal.the-variants.{UnknownCommand, MissingOperand, NotSetUp, SetUpTwice, StationsRange, PeriodRange, StationRange, StationUp, StationDown, WornOut, SameStation, NoTicks, PastLastTick, Unsound, BufferShort, ScheduleLong}
 use Rattle.election.specs.declared.System.{System}
+
+-- numbers that are bytes
+abbrev pub Bytes : List ℕ → Type 0
+Bytes xs = All (λ b. b < 256) xs
 
 -- a command with its operands
 pub data Command : Type 0 where

@@ -88,7 +88,7 @@ errors =
     ∷ record { bytes = setUp 2 16 ++ link 1 2 64 ++ link 2 1 64 ++ start 1 ++ start 2 ++ run 34 ++ lose 1 2; view = InLast (carried 1 2); seen = 0 ∷ 0 ∷ 2 ∷ [] }
     -- a delay outlives a crash of its sender
     ∷ record { bytes = started ++ link 1 2 3 ++ crash 1 ++ start 1; view = InLast (delayOf 1 2); seen = 0 ∷ 3 ∷ [] }
-    -- delays from 65 to 255 are taken
+    -- delays 65 and 255 are taken
     ∷ record { bytes = started ++ link 1 2 65 ++ link 2 1 255; view = InLast (λ s. delayOf 1 2 s ++ delayOf 2 1 s); seen = 0 ∷ 65 ∷ 255 ∷ [] }
     -- a link carries sixteen: sent at 17, 33, .. 257, and the first is due at 272
     ∷ record { bytes = sixteen; view = InLast (carried 1 2); seen = 0 ∷ 16 ∷ 16 ∷ [] }

@@ -40,7 +40,7 @@ fn longest(tick: u32) -> u64
 }
 
 // The smaller of two numbers.
-fn least(a: u32, b: u32) -> u32
+pub fn least(a: u32, b: u32) -> u32
     ensures { λ r. ⌜ r ≡ min a b ⌝ }
 {
     if a < b { a } else { b }

@@ -47,17 +47,17 @@ placed-turn k new ms₀ ms i a hk hi =
     at x h (yes e) = rw e (getD-set-same (part ms k) i m noMessage (omega (arith, length-segment places noMessage ms k)))
     at x h (no ne) = getD-set-other (part ms k) i x m noMessage ne ∙ a .front x (omega arith)
 
--- all four placed are the stretch
+-- once all its places are laid, they are the stretch
 pub placed-all : (k : ℕ) (new ms₀ ms : List Message) → Placed k new ms₀ ms places → length new ≡ places → part ms k ≡ new
 placed-all k new ms₀ ms a h =
     ext-getD noMessage (part ms k) new (length-segment places noMessage ms k ∙ sym h) (λ x b. a .front x (omega (arith, length-segment places noMessage ms k)))
 
--- each link of an array has four messages
-pub links-four : (links : List Link) (us : List Val) → shadow (each (the-field .row .Denot) (the-field .row .own) (map (the-field .into) links) us) → (k : ℕ) → k < length links → length (getD links k noLink .messages) ≡ places
-links-four [] us s k h = absurd (omega arith)
-links-four (l ∷ links) [] s k h = absurd s
-links-four (l ∷ links) (u ∷ us) s zero h = simp length-map at (s .0 .1 .1 .1 .0 .1 .0 .1)
-links-four (l ∷ links) (u ∷ us) s (suc k) h = links-four links us (s .1) k (omega arith)
+-- each link of an array has all its places
+pub links-full : (links : List Link) (us : List Val) → shadow (each (the-field .row .Denot) (the-field .row .own) (map (the-field .into) links) us) → (k : ℕ) → k < length links → length (getD links k noLink .messages) ≡ places
+links-full [] us s k h = absurd (omega arith)
+links-full (l ∷ links) [] s k h = absurd s
+links-full (l ∷ links) (u ∷ us) s zero h = simp length-map at (s .0 .1 .1 .1 .0 .1 .0 .1)
+links-full (l ∷ links) (u ∷ us) s (suc k) h = links-full links us (s .1) k (omega arith)
 
 -- the first k links are laid out
 pub record Laid (links : List Link) (used : List ℕ) (ms : List Message) (k : ℕ) : Type 0 where
@@ -70,13 +70,13 @@ laid-none links used ms a b = record { counts = a; size = b; same = λ j h. absu
 
 pub laid-turn : (links : List Link) (used : List ℕ) (ms ms′ : List Message) (k : ℕ) → Laid links used ms k → k < 64 → Placed k (getD links k noLink .messages) ms ms′ places → length (getD links k noLink .messages) ≡ places
     → Laid links (set used k (getD links k noLink .used)) ms′ (k + 1)
-laid-turn links used ms ms′ k a hk b four = record { counts = length-set used k u ∙ a .counts; size = b .size; same = λ j h. at j h (ℕ-discrete j k) }
+laid-turn links used ms ms′ k a hk b full = record { counts = length-set used k u ∙ a .counts; size = b .size; same = λ j h. at j h (ℕ-discrete j k) }
   where
     u : ℕ
     u = getD links k noLink .used
 
     at : (j : ℕ) → j < k + 1 → Dec (j ≡ k) → linkOf (set used k u) ms′ j ≡ getD links j noLink
-    at j h (yes e) = rw e (link-is (set used k u) ms′ k (getD links k noLink) (getD-set-same used k u 0 (omega (arith, a .counts))) (placed-all k _ ms ms′ b four))
+    at j h (yes e) = rw e (link-is (set used k u) ms′ k (getD links k noLink) (getD-set-same used k u 0 (omega (arith, a .counts))) (placed-all k _ ms ms′ b full))
     at j h (no ne) =
         link-is (set used k u) ms′ j (linkOf used ms j) (getD-set-other used k j u 0 ne ∙ sym (link-used used ms j)) (b .others j ne ∙ sym (link-places used ms j))
         ∙ a .same j (omega arith)
@@ -90,7 +90,7 @@ laid-all links used ms a h =
 abbrev pub taken : List Message → ℕ → ℕ → List Message → List Message
 taken ms k i old = firsts i (λ i. getD ms (places * k + i) noMessage) old
 
--- with all four, and the count, they are the link
+-- with all places, and the count, they are the link
 pub taken-all : (used : List ℕ) (ms : List Message) (k : ℕ) (old : List Message) (l : Link) → length old ≡ places → l .used ≡ getD used k 0 → l .messages ≡ taken ms k places old → l ≡ linkOf used ms k
 unfolding segment
 taken-all used ms k old l h a b = sym (link-is used ms k l (sym a) (sym (b ∙ firsts-all places _ old h)))

@@ -35,7 +35,7 @@ module _ {A : Type 0} where
   all-drop P (suc k) [] h = h
   all-drop P (suc k) (x ∷ xs) h = all-drop P k xs (h .1)
 
-  -- past the end it holds of what stands there
+  -- an entry, or what is read past the end, if it holds of that
   pub all-get : (P : A → Type 0) (xs : List A) (k : ℕ) (d : A) → P d → All P xs → P (getD xs k d)
   all-get P [] k d past h = past
   all-get P (x ∷ xs) zero d past h = h .0

@@ -38,7 +38,7 @@ finding first permitted none-lost none-cut arriving within all-ticks divided bou
 abbrev holding : ℕ → ℕ → ℕ → Found
 holding all-ticks divided bound = finding true true true true true true all-ticks divided bound
 
-meets-of : {bytes : List ℕ} {stretch : List (List ℕ)} {d L ticks some most : ℕ} → Says bytes stretch d L (holding ticks some most) → Meets bytes stretch d L ticks some most
+meets-of : {bytes : List ℕ} {stretch : List (List ℕ)} {d L ticks unsettled limit : ℕ} → Says bytes stretch d L (holding ticks unsettled limit) → Meets bytes stretch d L ticks unsettled limit
 meets-of s = record { accepted = s .accepted; first = s .first refl; quiet = quiet-of s refl refl refl refl refl; all-ticks = s .all-ticks; divided = s .divided; bounded = s .bounded }
 
 -- the instance

@@ -1,15 +1,13 @@
--- Functions that meet the contracts of Command and Schedule: each refusal has a name.
+-- Functions that meet the contracts of Command and Schedule: each refusal that bytes can meet has a name.
 use mathlib.Core.Path.{_≡_, refl, _∙_}
 use mathlib.Core.Logic.{_≢_}
-use mathlib.Core.List.{List, [], _∷_}
+use mathlib.Core.List.{List}
 use mathlib.Core.Bool.{Bool, true, false, cond}
 use Prim.Native.Nat.{ℕ, _+_}
 use lib.Dec.{eqb, ltb}
-use lib.ListN.{length, getD}
+use lib.ListN.{length}
 use Rattle.lists.specs.Every.{All}
 use Rattle.lists.proofs.Bools.{cond-elim}
-use Rattle.lists.proofs.First.{first-is}
-use Rattle.fit.specs.Fit.{within}
 use Rattle.election.specs.Commands.{Command, SetUp, Start, Crash, Link, Run, Lose, Report, decode, operands, tests, refusal, command, numberOf, refusalOf, lengthOf}
 use Rattle.settling.specs.OfCode.{Octets, CodeExists}
 use Rattle.election.specs.Schedule.{End, mostBytes, schedule, refusalOf as refusalIn, offsetOf}
@@ -24,7 +22,7 @@ use Rattle.election.specs.declared.Refusal.{Refusal}
 use Rattle.election.specs.declared.Refusal.the-variants.{UnknownCommand, MissingOperand, NotSetUp, SetUpTwice, StationsRange, PeriodRange, StationRange, StationUp, StationDown, WornOut, SameStation, NoTicks, PastLastTick, Unsound, ScheduleLong}
 use Rattle.election.specs.declared.Scheduled.{Scheduled}
 use Rattle.election.specs.declared.System.{System}
-use Rattle.election.proofs.Follow.{follow-refusal}
+use Rattle.election.proofs.Follow.{ruling-is, follow-refusal}
 use Rattle.election.proofs.NoTwelve.{no-twelve}
 
 -- the refusal with a number
@@ -49,7 +47,7 @@ named k =
 abbrev Known : ℕ → Type 0
 Known k = k ≢ 12 → cond (eqb k 0) 0 (numberOf (named k)) ≡ k
 
--- a number of a list of tests that has a name
+-- where a test fails, its number is known
 abbrev Named : Bool × ℕ → Type 0
 Named t = t .0 ≡ false → Known (t .1)
 
@@ -67,9 +65,7 @@ command-known : (s : System) (bytes : List ℕ) → Known (command s bytes .refu
 unfolding command refusal named
 command-known s bytes =
     cond-elim Known (sound s) {y = 15}
-    (λ e.
-    first-is Known (λ ne. refl) ((ltb 0 (length bytes), 2) ∷ (within 1 (getD bytes 0 0) 7, 1) ∷ (ltb (operands (decode bytes)) (length bytes), 2) ∷ tests s (decode bytes))
-    (λ f ne. refl, (λ f ne. refl, (λ f ne. refl, tests-known s (decode bytes)))))
+    (λ e. ruling-is Known (λ ne. refl) (λ ne. refl) (λ ne. refl) s bytes (tests-known s (decode bytes)))
     (λ e ne. refl)
 
 schedule-known : (bytes : List ℕ) → Known (schedule bytes .refusal)

@@ -36,14 +36,15 @@ abbrev pub begin : System
 begin = schedule bytes .system
 
 -- the conditions of demand 3 hold after a schedule: of so many ticks so many are divided, where the bound is so high
-pub record Meets (bytes : List ℕ) (stretch : List (List ℕ)) (d L ticks some most : ℕ) : Type 0 where
+pub record Meets (bytes : List ℕ) (stretch : List (List ℕ)) (d L ticks unsettled limit : ℕ) : Type 0 where
   pub accepted : schedule bytes .refusal ≡ 0
   pub first : First (schedule bytes .system .n) (commands bytes) L
   pub quiet : Quiet d stretch (schedule bytes .system)
   pub all-ticks : length (befores stretch (schedule bytes .system)) ≡ ticks
-  pub divided : dividedTicks L (befores stretch (schedule bytes .system)) ≡ some
-  pub bounded : bound d (schedule bytes .system) ≡ most
+  pub divided : dividedTicks L (befores stretch (schedule bytes .system)) ≡ unsettled
+  pub bounded : bound d (schedule bytes .system) ≡ limit
 
+-- so it is here: of 38 ticks 32 are divided, where the bound is 46
 pub record Instance : Type 0 where
   pub meets : Meets bytes stretch d L 38 32 46
   -- two heads are up
@@ -61,7 +62,8 @@ pub record Instance : Type 0 where
   -- the start in the stretch is refused
   pub refused : ruling (given (take 7 stretch) begin) (start 2) ≡ 8
 
--- Two stations that start at once, with every delay 255: what 1 sends at tick 17 is heard at 272, and from then on both trust 1.
+-- Two stations that start at once, with every delay 255: what 1 sends at tick 17 is heard at 272, and from then on both trust 1. Of 290 ticks 271 are
+-- divided.
 abbrev pub slowBytes : List ℕ
 slowBytes = setUp 2 16 ++ link 1 2 255 ++ link 2 1 255 ++ start 1 ++ start 2
 

@@ -4,7 +4,7 @@ use mathlib.Core.List.{List, [], _∷_}
 use Prim.Native.Nat.{ℕ, _^_, _<_}
 use lib.ListN.{length, take}
 use Rattle.lists.specs.Every.{All}
-use Rattle.election.specs.Commands.{command, said as saidCommand}
+use Rattle.election.specs.Commands.{Bytes, command, said as saidCommand}
 use Rattle.election.specs.Schedule.{schedule, said as saidSchedule}
 use Rattle.settling.specs.Settling.{First, Quiet, given, Settles}
 use Rattle.election.specs.History.{commands, reached}
@@ -15,7 +15,7 @@ use Rattle.election.specs.declared.System.{System}
 
 -- what a slice of bytes can hold
 pub record Octets (bytes : List ℕ) : Type 0 where
-  pub bytes-each : All (λ b. b < 256) bytes
+  pub bytes-each : Bytes bytes
   pub slice : length bytes < 2 ^ 64
 
 -- the fresh system, and what Command leaves of a reachable one

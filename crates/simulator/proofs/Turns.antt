@@ -105,7 +105,7 @@ messages-stored s z y k p q i h hk wide clear all e =
     let cleared : Clearing k s z 0 places = subst (Clearing k s z 0) all clear in
     (subst Wide (sym e) (record { used = length-set (z .used) k 0 ∙ ap (λ (x : Layout). length (x .used)) (cleared .same) ∙ wide .used; messages = cleared .size }), lost-read k s z y cleared wide hk e ∙ ap (λ j. withLinks (set (systemOf s .links) j (holding [])) (systemOf s)) h)
 
--- a run by a tick up to which ticks only raise the counter
+-- a run that ends by a tick up to which ticks only raise the counter
 pub tick-raised : (s y : Layout) (quiet t : ℕ) → Still quiet (systemOf s) → s .tick + t ≤ quiet → systemOf y ≡ atTick (s .tick + t) (systemOf s) → (systemOf y ≡ ticks t (systemOf s)) × Still quiet (systemOf y)
 tick-raised s y quiet t still h e = (e ∙ sym (still t h), subst (Still quiet) (sym e) (still-on quiet t (systemOf s) h still))
 

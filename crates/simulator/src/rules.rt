@@ -72,7 +72,7 @@ pub fn go_on(mut s: Layout, from: usize, bytes: &[u8], list: bool, buffer: &mut 
             Decision::Start(p) => {
                 let place = (p - 1) as usize;
                 s.stations[place] = start(p, s.n, s.period, s.tick, s.stations[place]);
-                quiet = 0; // a started station has a chance
+                quiet = 0; // a send chance is to come
             }
             Decision::Crash(p) => {
                 let place = (p - 1) as usize;

@@ -1,4 +1,4 @@
-// Whether a system is sound: every clause of document 01's list, tested. No sum in the tests wraps.
+// Whether a system is sound: every clause of document 01's list, tested, but for the longest delay, which no byte passes. No sum in the tests wraps.
 ghost use mathlib.Core.Path.{_≡_};
 ghost use Prim.Native.Nat.{_+_, _<_, _≤_};
 ghost use Rattle.lists.specs.Test.{allTo};

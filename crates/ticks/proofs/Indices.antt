@@ -1,6 +1,6 @@
 -- Numbers of stations, links and places of messages are in range, and what the code computes of them fits.
 use mathlib.Core.Path.{_≡_}
-use Prim.Native.Nat.{ℕ, _+_, _-_, _*_, _<_, _≤_}
+use Prim.Native.Nat.{ℕ, _+_, _-_, _*_, _<_, _≤_, min}
 use native.Mathlib.Omega.{arith}
 use mir.Syntax.{w8, w32, w64}
 use mir.Val.{Fits}
@@ -125,3 +125,13 @@ no-more a b c e h = omega arith
 
 pub long-enough : (i n m : ℕ) → i < n → m ≡ n → i < m
 long-enough i n m h e = omega arith
+
+-- the lesser of two ticks
+pub least-first : (a b r : ℕ) → r ≡ min a b → r ≤ a
+least-first a b r e = omega arith
+
+pub least-second : (a b r : ℕ) → r ≡ min a b → r ≤ b
+least-second a b r e = omega arith
+
+pub least-above : (t a b r : ℕ) → r ≡ min a b → t ≤ a → t ≤ b → t ≤ r
+least-above t a b r e h i = omega arith

@@ -67,7 +67,7 @@ module _ (s : System) (t : Ticking s) where
   timeouts-low : (p q : ℕ) → In (s .n) p → In (s .n) q → entry (station s p .timeouts) q ≤ longest lastTick
   timeouts-low p q ip iq = fit-timeouts p (s .n) (s .period) (s .tick) (station s p) (is .tick-high) (is .fits p ip) (q - 1) (omega (arith, iq .low, iq .high, is .n-high))
 
-  -- a link of the system has at most four messages
+  -- a link of the system has no more messages than places
   few-used : (q p : ℕ) → In (s .n) q → In (s .n) p → getD (s .links) (place q p) noLink .used ≤ places
   few-used q p iq ip = go (ℕ-discrete q p)
     where

@@ -19,13 +19,6 @@ pub(crate) fn short_of(now: u32, due: u32, end: u32) -> u32
     due - 1
 }
 
-// The earlier of two ticks.
-pub(crate) fn least(a: u32, b: u32) -> u32
-    ensures { λ r. ⌜ (r ≤ a) × (r ≤ b) × ((t : ℕ) → t ≤ a → t ≤ b → t ≤ r) ⌝ }
-{
-    if a < b { a } else { b }
-}
-
 // A tick up to end, with nothing of the station due after now and up to it.
 pub(crate) fn quiet_station(now: u32, x: Station, end: u32) -> u32
     requires { ⌜ now ≤ end ⌝ }

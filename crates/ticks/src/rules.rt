@@ -8,7 +8,6 @@ ghost use Rattle.layout.specs.Layout.{systemOf};
 ghost use Rattle.election.specs.Idle.{Still};
 ghost use Rattle.election.specs.Sound.{sound};
 ghost use Rattle.election.specs.Tick.{ticks};
-use crate::due::least;
 use crate::due::quiet_station;
 use crate::due::short_of;
 use crate::steps::sends_now;
@@ -16,6 +15,7 @@ use crate::steps::sent_more;
 use crate::steps::timer_ends;
 use election::Message;
 use election::PLACES;
+use fit::least;
 use layout::Layout;
 use layout::rules::unused;
 use station::rules::expire;
@@ -44,7 +44,7 @@ fn ticks_of(d: u8) -> u32
     d as u32
 }
 
-// The system after t ticks. In a tick what is due is heard, sender by sender, past those that have nothing under way; then each timer and
+// The system after t ticks, and a tick up to which nothing more is due. In a tick what is due is heard, sender by sender, past those that have nothing under way; then each timer and
 // each send chance that is due is done; then the counter goes on to `until`, or to the end of the run: up to `until` nothing is due.
 pub fn run(t: u32, mut s: Layout) -> Ran
     requires { ⌜ (sound (systemOf s) ≡ true) × (s .ready ≡ true) × (s .tick + t ≤ lastTick) ⌝ }

@@ -4,7 +4,7 @@ use Prim.Native.Nat.{_-_, _≤_}
 use native.Mathlib.Omega.{arith}
 use lib.ListN.{length-map}
 use Rattle.election.specs.System.{withLinks, places}
-use Rattle.layout.proofs.Between.{Placed, placed-none, placed-turn, links-four, Laid, laid-none, laid-turn, laid-all}
+use Rattle.layout.proofs.Between.{Placed, placed-none, placed-turn, links-full, Laid, laid-none, laid-turn, laid-all}
 use borrow.Author.Needs.{needs}
 use Rattle.layout.proofs.rules.layout_of.Statement.{statement}
 use Rattle.layout.proofs.rules.layout_of.Tie as tie
@@ -35,7 +35,7 @@ loop-again c =
     let e : c .before .loop2 .i ≡ places = omega arith in
     let start = c .before .before .before .before .before .before in
     let good = start .good .0 .1 .1 .1 .1 .1 .1 .1 .1 .1 .0 in
-    (search needs, laid-turn _ _ _ _ _ (c .before .before .before .before .loop .inv .1) (search needs) (rw e at (c .before .loop2 .inv .1)) (links-four (start .args .t1 .links) (good .0) (good .1 .1) (c .before .before .before .before .loop .k) (omega (arith, simp length-map at (good .1 .0 .1)))))
+    (search needs, laid-turn _ _ _ _ _ (c .before .before .before .before .loop .inv .1) (search needs) (rw e at (c .before .loop2 .inv .1)) (links-full (start .args .t1 .links) (good .0) (good .1 .1) (c .before .before .before .before .loop .k) (omega (arith, simp length-map at (good .1 .0 .1)))))
 
 returns : tie.Need-returns Inv-loop2 μ-loop2 Inv-loop μ-loop
 returns c =

@@ -23,7 +23,7 @@ use Rattle.ticks.proofs.Chances.{Chances, chances-first, chances-statio
 use Rattle.ticks.proofs.Counted.{chances-counted}
 use Rattle.ticks.proofs.Hearing.{Hearing, hearing-none, hearing-tick, hearing-ready, hearing-row, hearing-rests, timer-ready}
 use Rattle.ticks.proofs.InPlace.{Packing, Heard}
-use Rattle.ticks.proofs.Indices.{Number, Ends, Place, number-of, ends-of, place-of, place-before, number-fits, name-fits, next-number-fits, row-fits, station-fits, sent-fits, link-low, link-fits, places-fit, place-low, place-fits, message-fits, next-place-fits, left-falls, tick-fits, next-low, all-done, none-low, row-start, used-more-fits, at-least, at-most, as-most, one-more, no-more, long-enough}
+use Rattle.ticks.proofs.Indices.{Number, Ends, Place, number-of, ends-of, place-of, place-before, number-fits, name-fits, next-number-fits, row-fits, station-fits, sent-fits, link-low, link-fits, places-fit, place-low, place-fits, message-fits, next-place-fits, left-falls, tick-fits, next-low, all-done, none-low, row-start, used-more-fits, at-least, at-most, as-most, one-more, no-more, long-enough, least-first, least-second, least-above}
 use Rattle.ticks.proofs.Reading.{Reading, reading-none, reading-keeps, reading-hears, reading-passes}
 use Rattle.ticks.proofs.Run.{Going, going-first, going-done, going-ticking, going-on, going-still}
 use Rattle.ticks.proofs.Silent.{Silent, silent-none, silent-marks, silent-leaves, silent-row, silent-stores, silent-sets, silent-sends, Gone, gone-more, gone-stores}
@@ -515,9 +515,10 @@ loop3-again c =
     let to = c .least .result in
     let tick = ap (atTick to) (run-tick r n _ _ σ (length-links _ _) (i4 .4) zq (i4 .5) (systemOf (c .before .before .loop8 .s)) until all) in
     let calm = run-calm r n _ _ σ (length-links _ _) (i4 .4) zq (i4 .5) (systemOf (c .before .before .loop8 .s)) until all in
-    let (by, high, most) = c .least .ensures in
     let before = c .before .before .before .before .before .loop3-test .taken in
-    let low = most _ (parts .1) (omega (arith, before)) in
+    let by = least-first _ _ _ (c .least .ensures) in
+    let high = least-second _ _ _ (c .least .ensures) in
+    let low = least-above _ _ _ _ (c .least .ensures) (parts .1) (omega (arith, before)) in
     (i .0, i .1, high, subst (Going _ _) (sym tick) (going-on _ _ r (i .3) before until to low high by calm), record { used = parts .2 .wide .used; messages = parts .2 .wide .messages }, parts .2 .silent, subst (Still until) (sym tick) (going-still _ _ r (i .3) before until to low high by calm))
 
 returns : tie.Need-returns Inv-loop2 μ-loop2 Inv-loop μ-loop Inv-loop6 μ-loop6 Inv-loop7 μ-loop7 Inv-loop5 μ-loop5 Inv-loop4 μ-loop4 Inv-loop9 μ-loop9 Inv-loop8 μ-loop8 Inv-loop3 μ-loop3
@@ -677,6 +678,6 @@ run-spec =
     (λ c. left-falls _ _ (c .before .before .before .before .before .before .loop8-test .taken))
     loop8-again
     (λ c κs. search needs)
-    (λ c. omega (arith, c .least .ensures .2 _ (c .before .before .loop8 .inv .1) (omega (arith, c .before .before .before .before .before .loop3-test .taken))))
+    (λ c. omega (arith, c .least .ensures, c .before .before .loop8 .inv .1, c .before .before .before .before .before .loop3-test .taken))
     loop3-again
     returns)
