@@ -13,9 +13,13 @@ ghost use Rattle.election.specs.declared.System.{System};
 ghost use Rattle.decision.specs.Decided.{Taken, Sees, decided, meaning};
 use crate::widths::width;
 use election::Refusal;
+use station::LAST_TICK;
 use station::Station;
 
 pub mod widths;
+
+// The last tick, as wide as a sum of ticks.
+const LAST: u64 = LAST_TICK as u64;
 
 // A command that is turned down, or taken with its operands.
 pub enum Decision {
@@ -97,7 +101,7 @@ fn crash(ready: bool, n: u8, x: Station, p: u8) -> Decision
     Decision::Crash(p)
 }
 
-// A command about a link: as it is handed over to be taken, unless it is turned down for its two stations.
+// A command about a link, handed over as it is to be taken: turned down as lose is, or taken.
 fn between(ready: bool, n: u8, from: u8, to: u8, taken: Decision) -> Decision
     ensures { λ r. ⌜ ((s : System) (c : Command) → s .ready ≡ ready → s .n ≡ n → meaning taken ≡ Taken c → meaning r ≡ decided (firstFailed (tests s (Lose from to))) c) ⌝ }
 {
@@ -137,7 +141,7 @@ fn run(ready: bool, tick: u32, t: u32) -> Decision
     match t {
         0 => Decision::Refused(Refusal::NoTicks),
         _ => match sum(tick, t) {
-            0..=1000000 => Decision::Run(t),
+            0..=LAST => Decision::Run(t),
             _ => Decision::Refused(Refusal::PastLastTick),
         },
     }

@@ -26,9 +26,9 @@ use Rattle.election.specs.Tick.{next, heardLink, heardAll, expiredNow, s
 use Rattle.election.specs.declared.Link.{Link}
 use Rattle.election.specs.declared.Message.{Message}
 use Rattle.election.specs.declared.System.{System}
-use Rattle.election.proofs.Places.{In, messages-holding}
-use Rattle.election.proofs.Soundness.{sound-of, link-of, place-of}
-use Rattle.election.proofs.TickSound.{after-few, ticks-add}
+use Rattle.election.proofs.Places.{In, messages-held}
+use Rattle.election.proofs.Soundness.{link-of, place-of}
+use Rattle.election.proofs.TickSound.{ticks-add}
 use Rattle.election.proofs.Underway.{later-none}
 
 -- a link with no message due: none of its messages is due
@@ -201,12 +201,12 @@ still-on until k s h still j b =
 -- what a tick leaves
 pub tick-held : TickHeld
 unfolding tick
-tick-held s e u before =
+tick-held s =
     record {
       stations = length-upTo 8 (seatNext s);
       sent = length-upTo 8 (sentNext s);
       links = length-upTo 64 link;
-      held = λ k h i. subst (λ l. holding (messages l) ≡ l) (sym (at k h i)) (again k i);
+      held = λ k h i. subst (λ l. holding (messages l) ≡ l) (sym (at k h i)) (ap holding (messages-held (underwayAfter s (from k) (to k))));
     }
   where
     link : ℕ → Link
@@ -214,9 +214,3 @@ tick-held s e u before =
 
     at : (k : ℕ) → k < 64 → isLink (s .n) (from k) (to k) ≡ true → getD (upTo 64 link) k noLink ≡ holding (underwayAfter s (from k) (to k))
     at k h i = getD-upTo 64 link k noLink h ∙ rw i
-
-    again : (k : ℕ) → isLink (s .n) (from k) (to k) ≡ true
-        → holding (messages (holding (underwayAfter s (from k) (to k)))) ≡ holding (underwayAfter s (from k) (to k))
-    again k i =
-        let (hp, hq, ne) = link-of (s .n) (from k) (to k) (omega arith) (omega arith) i in
-        ap holding (messages-holding (underwayAfter s (from k) (to k)) (after-few s (sound-of s e u) before (from k) (to k) hp hq ne))

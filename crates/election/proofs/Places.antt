@@ -58,9 +58,6 @@ pub messages-held : (ms : List Message) → messages (holding ms) ≡ ms
 unfolding messages holding
 messages-held ms = take-over (length ms) ms (replicate places _) refl
 
-pub messages-holding : (ms : List Message) → length ms ≤ places → messages (holding ms) ≡ ms
-messages-holding ms h = messages-held ms
-
 -- the system after a tick
 module _ (s : System) where
   pub tick-tick : tick s .tick ≡ s .tick + 1
@@ -98,5 +95,5 @@ module _ (s : System) where
         getD-upTo 64 (linkNext s) (place p q) noLink (place-in p q wp wq)
         ∙ rw (from-place p q wp wq, to-place p q wp wq, is-link (s .n) p q hp hq ne)
 
-    pub tick-underway : (p q : ℕ) → In (s .n) p → In (s .n) q → p ≢ q → length (underwayAfter s p q) ≤ places → underway (tick s) p q ≡ underwayAfter s p q
-    tick-underway p q hp hq ne h = ap messages (tick-link p q hp hq ne) ∙ messages-holding (underwayAfter s p q) h
+    pub tick-underway : (p q : ℕ) → In (s .n) p → In (s .n) q → p ≢ q → underway (tick s) p q ≡ underwayAfter s p q
+    tick-underway p q hp hq ne = ap messages (tick-link p q hp hq ne) ∙ messages-held (underwayAfter s p q)

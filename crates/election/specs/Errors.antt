@@ -5,7 +5,7 @@ use mathlib.Core.Bool.{Bool, true, false}
 use Prim.Native.Nat.{ℕ}
 use lib.ListN.{replicate}
 use Rattle.election.specs.Listing.{decimal, output}
-use Rattle.election.specs.Rows.{Row, Printed, InLast, Hold, leaders, trusted, timeouts, kept, known, sentCount, delayOf, carried, setUp, start, crash, link, run, lose, report, started, at20}
+use Rattle.election.specs.Rows.{Row, Printed, InLast, Hold, leaders, trusted, timeouts, kept, known, sentCount, delayOf, carried, setUp, start, crash, link, run, lose, report, started, at20, startedSlow}
 use Rattle.election.specs.Schedule.{schedule}
 use Rattle.election.specs.Text.{text}
 use Rattle.election.specs.declared.System.{System}
@@ -51,10 +51,6 @@ againPrinted =
     ++ text "agreed 2\n"
     ++ text "end 27\n"
 
--- η 16 and every delay 255, to the tick before the first message is due
-abbrev pub sixteen : List ℕ
-sixteen = setUp 2 16 ++ link 1 2 255 ++ link 2 1 255 ++ start 1 ++ start 2 ++ run 255 ++ run 16
-
 abbrev pub errors : List Row
 errors =
     -- a timer ended before the message of the same tick would raise the timeout to 18
@@ -90,8 +86,8 @@ errors =
     ∷ record { bytes = started ++ link 1 2 3 ++ crash 1 ++ start 1; view = InLast (delayOf 1 2); seen = 0 ∷ 3 ∷ [] }
     -- delays 65 and 255 are taken
     ∷ record { bytes = started ++ link 1 2 65 ++ link 2 1 255; view = InLast (λ s. delayOf 1 2 s ++ delayOf 2 1 s); seen = 0 ∷ 65 ∷ 255 ∷ [] }
-    -- a link carries sixteen: sent at 17, 33, .. 257, and the first is due at 272
-    ∷ record { bytes = sixteen; view = InLast (carried 1 2); seen = 0 ∷ 16 ∷ 16 ∷ [] }
+    -- a link carries sixteen, to the tick before the first is due: sent at 17, 33, .. 257, due from 272 on
+    ∷ record { bytes = startedSlow ++ run 255 ++ run 16; view = InLast (carried 1 2); seen = 0 ∷ 16 ∷ 16 ∷ [] }
     ∷ []
 
 -- what is printed: every report, every word, every digit

@@ -5,9 +5,8 @@ use Prim.Native.Nat.{ℕ, _+_, _<_, _≤_}
 use lib.ListN.{length, getD}
 use lib.Dec.{eqb}
 use Rattle.lists.specs.Test.{allTo}
-use Rattle.station.specs.Limits.{lastTick}
 use Rattle.station.specs.declared.Station.{Station}
-use Rattle.election.specs.Sound.{messageAt, sound}
+use Rattle.election.specs.Sound.{messageAt}
 use Rattle.election.specs.System.{noLink, station, place, from, to, messages, holding, isLink, atTick}
 use Rattle.election.specs.Tick.{next, tick, ticks}
 use Rattle.election.specs.declared.Link.{Link}
@@ -50,6 +49,6 @@ IdleTicks = (k : ℕ) (s : System) → Held s → ((now : ℕ) → s .tick < now
 abbrev pub Still : ℕ → System → Type 0
 Still until s = (k : ℕ) → s .tick + k ≤ until → ticks k s ≡ atTick (s .tick + k) s
 
--- a tick of a sound system leaves such a system
+-- a tick leaves a system whose tables are full and whose links hold their messages so
 abbrev pub TickHeld : Type 0
-TickHeld = (s : System) → sound s ≡ true → s .ready ≡ true → s .tick < lastTick → Held (tick s)
+TickHeld = (s : System) → Held (tick s)

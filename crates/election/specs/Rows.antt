@@ -86,3 +86,7 @@ started = setUp 2 16 ++ start 1 ++ start 2
 
 abbrev pub at20 : List ℕ
 at20 = started ++ run 20
+
+-- the same start with every delay 255
+abbrev pub startedSlow : List ℕ
+startedSlow = setUp 2 16 ++ link 1 2 255 ++ link 2 1 255 ++ start 1 ++ start 2

@@ -5,7 +5,8 @@ ghost use Prim.Native.Nat.{_+_, _-_, _<_, _≤_, min};
 ghost use lib.Dec.{eqb};
 ghost use Rattle.station.specs.Rules.{other};
 ghost use Rattle.fit.specs.Fit.{within, ranges, keptIn, cleared, countIn, countsIn, timeoutIn, timeoutsIn, alive, slotIn, timerIn, standing, fit, justSet, timeoutsAt, fitStart, fitCrash, fitExpire, fitMessage, heardBefore, fitHear, unended, ended, fitSlot};
-ghost use Rattle.station.specs.Limits.{longest};
+ghost use Rattle.station.specs.Limits.{lastTick, longest};
+use station::LAST_TICK;
 use station::Station;
 use station::rules::count_of;
 use station::rules::other;
@@ -48,9 +49,9 @@ pub fn least(a: u32, b: u32) -> u32
 
 // Whether a tick is one of a run.
 fn in_run(tick: u32) -> bool
-    ensures { λ r. ⌜ r ≡ within 1 tick 1000000 ⌝ }
+    ensures { λ r. ⌜ r ≡ within 1 tick lastTick ⌝ }
 {
-    (1 <= tick) & (tick <= 1000000)
+    (1 <= tick) & (tick <= LAST_TICK)
 }
 
 // Whether the number of the station, the number of stations and the period are in range.
@@ -209,7 +210,7 @@ fn counted(high: u64, x: u32, c: u32) -> u32
 pub fn fit_start(me: u8, n: u8, period: u32, tick: u32, s: Station) -> bool
     ensures { λ r. ⌜ r ≡ fitStart me n period tick s ⌝ }
 {
-    (tick <= 1000000) & fit(me, n, period, tick, s)
+    (tick <= LAST_TICK) & fit(me, n, period, tick, s)
 }
 
 // Whether a crash can be handed these values.

@@ -90,7 +90,7 @@ module _ (period : ℕ) (low : 16 ≤ period) (high : period ≤ flight) where
         between = [];
         younger = sentAt flight;
         last = [];
-        is-mail = around-underway 2 2 period flight (unstarted 2) (only 1 two) 1 (record { low = omega arith; high = omega arith }) (record { low = omega arith; high = omega arith }) (inbox .carried 1 .few);
+        is-mail = around-underway 2 2 period flight (unstarted 2) (only 1 two) 1 (record { low = omega arith; high = omega arith }) (record { low = omega arith; high = omega arith });
         is-due = refl;
       }
 

@@ -64,7 +64,7 @@ module _ (me n period now : ℕ) (v : InTick me n period now) where
   quiet : (x : Station) → heardAll byCounts n me now (λ q. underway (around me n period (now - 1) x noMail) q me) (station (around me n period (now - 1) x noMail) me) ≡ x
   quiet x =
       heardAll-each byCounts n me now (λ q. underway (around me n period (now - 1) x noMail) q me) (station (around me n period (now - 1) x noMail) me)
-      ∙ hears-nobody byCounts me n period (now - 1) now x noMail hm (λ p. omega arith) n (v .given .n-high) (station (around me n period (now - 1) x noMail) me) (λ p h. refl)
+      ∙ hears-nobody byCounts me n period (now - 1) now x noMail hm n (v .given .n-high) (station (around me n period (now - 1) x noMail) me) (λ p h. refl)
       ∙ around-station me n period (now - 1) x noMail hm
 
   -- after (a) and (b)
@@ -126,7 +126,7 @@ module _ (me n period now q : ℕ) (v : List ℕ) (x : Station) (h : Hearing me 
       older = older;
       message = youngest;
       younger = [];
-      is-mail = around-underway me n period (now - 1) y mail q (record { low = h .message .low; high = omega (arith, h .message .high, h .values .given .n-high) }) (hm me n period now (h .values)) (m .carried q .few) ∙ e;
+      is-mail = around-underway me n period (now - 1) y mail q (record { low = h .message .low; high = omega (arith, h .message .high, h .values .given .n-high) }) (hm me n period now (h .values)) ∙ e;
       is-due = refl;
       is-counts = refl;
       is-station = ap (λ z. heardLink byCounts me q now older (heardLower y mail z)) (around-station me n period (now - 1) y mail (hm me n period now (h .values))) ∙ s;
@@ -144,7 +144,7 @@ module _ (me n period now q : ℕ) (v : List ℕ) (x : Station) (h : Hearing me 
       (h .stands .living .up)
       (also-own q (youngest ∷ []) noMail)
       (heard-none byCounts me q now [] (heardLower x mail x) refl
-      ∙ hears-nobody byCounts me n period (now - 1) now x mail (hm me n period now (h .values)) (λ p. m .carried p .few) (q - 1) (omega (arith, h .message .high, h .values .given .n-high)) x (λ p i. also-others q (youngest ∷ []) noMail p (λ e. omega (arith, h .message .low))))
+      ∙ hears-nobody byCounts me n period (now - 1) now x mail (hm me n period now (h .values)) (q - 1) (omega (arith, h .message .high, h .values .given .n-high)) x (λ p i. also-others q (youngest ∷ []) noMail p (λ e. omega (arith, h .message .low))))
 
   module _ (l : Eight x) (j : JustSet me now x) where
     abbrev earlierFits : fit me n period (now - 1) (trusting me 0 x) ≡ true
@@ -161,7 +161,7 @@ module _ (me n period now q : ℕ) (v : List ℕ) (x : Station) (h : Hearing me 
         handed-by y mail [] m earlierFits (h .stands .living .up)
         (also-own q (youngest ∷ []) (leaderMail now x))
         (heard-none byCounts me q now [] (heardLower y mail y) refl
-        ∙ hears-only byCounts me n period (now - 1) now y mail (hm me n period now (h .values)) (λ p. m .carried p .few) (q - 1) (omega (arith, h .message .high, h .values .given .n-high)) y (x .leader) (h .stands .living .leader-low) (omega arith)
+        ∙ hears-only byCounts me n period (now - 1) now y mail (hm me n period now (h .values)) (q - 1) (omega (arith, h .message .high, h .values .given .n-high)) y (x .leader) (h .stands .living .leader-low) (omega arith)
         (λ p i ne. also-others q (youngest ∷ []) (leaderMail now x) p (λ e. omega (arith, h .message .low)) ∙ also-others (x .leader) (o ∷ []) noMail p ne)
         ∙ ap (λ ms. heardLink byCounts me (x .leader) now ms y) (also-others q (youngest ∷ []) (leaderMail now x) (x .leader) (λ e. omega arith) ∙ also-own (x .leader) (o ∷ []) noMail)
         ∙ hears-one byCounts me (x .leader) now y o refl
@@ -178,7 +178,7 @@ module _ (me n period now q : ℕ) (v : List ℕ) (x : Station) (h : Hearing me 
         handed-by y (only q ms) (o ∷ []) m earlierFits (h .stands .living .up)
         (also-own q ms noMail)
         (ap (heardLink byCounts me q now (o ∷ []))
-        (hears-nobody byCounts me n period (now - 1) now y (only q ms) (hm me n period now (h .values)) (λ p. m .carried p .few) (q - 1) (omega (arith, h .message .high, h .values .given .n-high)) y (λ p i. also-others q ms noMail p (λ e. omega (arith, h .message .low))))
+        (hears-nobody byCounts me n period (now - 1) now y (only q ms) (hm me n period now (h .values)) (q - 1) (omega (arith, h .message .high, h .values .given .n-high)) y (λ p i. also-others q ms noMail p (λ e. omega (arith, h .message .low))))
         ∙ hears-one byCounts me q now y o refl
         ∙ ap (λ p. heard me p (replicate 8 0) now y) (sym e)
         ∙ leader-heard me n period now x (h .values .given) (h .stands) j (l .counts))
@@ -232,7 +232,7 @@ module _ (me n period now : ℕ) (x : Station) (d : Slotting me n period now x) 
         (d .living .up)
         (settled-now me n period now (d .values) y x (leaderMail now x) (d .living .up)
         (heardAll-each byCounts n me now (λ q. underway s q me) (station s me)
-        ∙ hears-only byCounts me n period (now - 1) now y (leaderMail now x) (hm me n period now (d .values)) (λ p. m .carried p .few) n (d .values .given .n-high) (station s me) (x .leader) (d .living .leader-low) (d .living .leader-high) (λ p i ne. also-others (x .leader) (o ∷ []) noMail p ne)
+        ∙ hears-only byCounts me n period (now - 1) now y (leaderMail now x) (hm me n period now (d .values)) n (d .values .given .n-high) (station s me) (x .leader) (d .living .leader-low) (d .living .leader-high) (λ p i ne. also-others (x .leader) (o ∷ []) noMail p ne)
         ∙ ap (λ ms. heardLink byCounts me (x .leader) now ms (station s me)) (also-own (x .leader) (o ∷ []) noMail)
         ∙ ap (heardLink byCounts me (x .leader) now (o ∷ [])) (around-station me n period (now - 1) y (leaderMail now x) (hm me n period now (d .values)))
         ∙ hears-one byCounts me (x .leader) now y o refl

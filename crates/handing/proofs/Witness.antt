@@ -25,7 +25,7 @@ use Rattle.election.specs.declared.System.{System}
 use Rattle.handing.proofs.Carries.{Inbox, noMail, no-mail}
 use Rattle.election.proofs.InitialSound.{empty-linked, empty-place, empty-seat}
 use Rattle.election.proofs.Links.{Linked, holding-linked}
-use Rattle.election.proofs.Places.{In, place-in, widen, at-link, messages-holding}
+use Rattle.election.proofs.Places.{In, place-in, widen, at-link, messages-held}
 use Rattle.election.proofs.Soundness.{of-sound}
 
 -- station p
@@ -66,9 +66,9 @@ module _ (me n period tick : ℕ) (x : Station) (mail : ℕ → List Message) wh
   around-down : (p : ℕ) → In 8 p → p ≢ me → station (around me n period tick x mail) p .up ≡ false
   around-down p h ne = ap (λ y. y .up) (around-at p h) ∙ rw (ne-eqb p me ne)
 
-  pub around-underway : (p : ℕ) → In 8 p → In 8 me → length (mail p) ≤ places → underway (around me n period tick x mail) p me ≡ mail p
-  around-underway p hp hm few =
-      ap messages (at-link (λ a b. holding (mailed me mail a b)) p me noLink hp hm ∙ rw (eq-eqb me me refl)) ∙ messages-holding (mail p) few
+  pub around-underway : (p : ℕ) → In 8 p → In 8 me → underway (around me n period tick x mail) p me ≡ mail p
+  around-underway p hp hm =
+      ap messages (at-link (λ a b. holding (mailed me mail a b)) p me noLink hp hm ∙ rw (eq-eqb me me refl)) ∙ messages-held (mail p)
 
   -- its tables are full, if no sender has more messages than a link has places
   pub around-full : ((p : ℕ) → length (mail p) ≤ places) → Full (around me n period tick x mail)

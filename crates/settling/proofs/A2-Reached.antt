@@ -20,7 +20,7 @@ use Rattle.election.proofs.Counts.{counts}
 use Rattle.election.proofs.Places.{In, tick-station, tick-underway}
 use Rattle.election.proofs.Soundness.{Sound}
 use Rattle.election.proofs.Steps.{all-keeps, settled-up, settled-unchanged, sending-of, tick-up, tick-count}
-use Rattle.election.proofs.TickSound.{tick-sound, after-few}
+use Rattle.election.proofs.TickSound.{tick-sound}
 use Rattle.election.proofs.Underway.{inbox-all, later-all, sent-all}
 
 -- every number
@@ -69,9 +69,9 @@ module _ (s : System) (h : Reached s) where
       (slots-elim (λ (y : Station). y .recovering ≡ false → y .slot ≤ next s + s .period) (s .period) (next s) (settled s p)
       (λ e w. omega arith) (λ e w. omega (arith, v .slot, old (sym (v .recovering) ∙ w))))
 
-  mail′ : s .tick < 1000000 → (q p : ℕ) → In (s .n) q → In (s .n) p → q ≢ p → All (λ (m : Message). (x : ℕ) → In (s .n) x → entry (m .counts) x ≤ counts (tick s) x) (underway (tick s) q p)
-  mail′ more-ticks q p iq ip ne =
-      rw (tick-underway s small q p iq ip ne (after-few s (h .sound) more-ticks q p iq ip ne))
+  mail′ : (q p : ℕ) → In (s .n) q → In (s .n) p → q ≢ p → All (λ (m : Message). (x : ℕ) → In (s .n) x → entry (m .counts) x ≤ counts (tick s) x) (underway (tick s) q p)
+  mail′ q p iq ip ne =
+      rw (tick-underway s small q p iq ip ne)
       (all-map (Low s) _ (λ m f x ix. omega (arith, f x ix, tick-count s small x ix)) (underwayAfter s q p)
       (all-append (Low s) (later (next s) (underway s q p)) (sent s q p)
       (later-all (Low s) (Low s) (next s) (underway s q p) (λ m d f. f) (h .mail q p iq ip ne))
@@ -79,4 +79,4 @@ module _ (s : System) (h : Reached s) where
 
   pub tick-reached : s .tick < 1000000 → Reached (tick s)
   unfolding tick
-  tick-reached more-ticks = record { sound = tick-sound s (h .sound) more-ticks; heads = heads′; paced = paced′; mail = mail′ more-ticks }
+  tick-reached more-ticks = record { sound = tick-sound s (h .sound) more-ticks; heads = heads′; paced = paced′; mail = mail′ }

@@ -29,7 +29,6 @@ use Rattle.settling.proofs.E1-Phase.{Phase, Move, early, move-phase}
 use Rattle.election.proofs.Counts.{counts}
 use Rattle.settling.proofs.A2-Reached.{always, Reached, settled-sane, tick-reached}
 use Rattle.election.proofs.Steps.{settled-up, settled-unchanged, sending-of, tick-up, tick-count, tick-slotted, tick-unslotted}
-use Rattle.election.proofs.TickSound.{after-few}
 use Rattle.election.proofs.Underway.{inbox-all, later-all, later-none, sent-all}
 
 -- A message from q to a steady head.
@@ -130,7 +129,7 @@ module _ (K : Stretch) (s : System) (h : Inv K s) where
   module _ (fine : Fine K s) (room : s .tick < 1000000) where
     underway-next : (q p : ℕ) → In (K .n) q → In (K .n) p → q ≢ p → underway (tick s) q p ≡ underwayAfter s q p
     underway-next q p iq ip ne =
-        tick-underway s n-high q p (in-s q iq) (in-s p ip) ne (after-few s (h .reached .sound) room q p (in-s q iq) (in-s p ip) ne)
+        tick-underway s n-high q p (in-s q iq) (in-s p ip) ne
 
     -- L's next message to p, or its next chance with d, after the tick: no later than before it.
     reach : K .since + K .M + 2 * K .d < next s → (p : ℕ) → In (K .n) p → K .steady p ≡ true → p ≢ K .L

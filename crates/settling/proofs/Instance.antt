@@ -12,14 +12,14 @@ use Rattle.fit.specs.Fit.{alive}
 use Rattle.election.specs.System.{station, sentBy, underway}
 use Rattle.election.specs.Commands.{ruling, refusal}
 use Rattle.election.specs.Listing.{agreed}
-use Rattle.election.specs.Rows.{start, at20}
+use Rattle.election.specs.Rows.{start, at20, startedSlow}
 use Rattle.settling.specs.Settling.{moments, befores, dividedTicks, longestWait, longestTimeout, upHeads, given}
 use Rattle.election.specs.History.{after, history, commands, starts, isUp}
 use Rattle.election.specs.Schedule.{End, schedule}
 use Rattle.election.proofs.Opened.{rules}
 use Rattle.election.proofs.Ruled.{ruled, byRules}
 use Rattle.election.proofs.Tables.{schedule-ruled}
-use Rattle.settling.specs.Instance.{bytes, stretch, d, L, begin, Meets, Instance, slowBytes, slowStretch, SlowLinks, beforeCrash, withCrash, CrashOfL, withLosses, LostToUp, withCut, CutToUp, withDelay, SentLate, beforeLate, afterLate, LateUnderWay, beforeLowest, afterLowest, LowestNumber}
+use Rattle.settling.specs.Instance.{bytes, stretch, d, L, begin, Meets, Instance, slowStretch, SlowLinks, beforeCrash, withCrash, CrashOfL, withLosses, LostToUp, withCut, CutToUp, withDelay, SentLate, beforeLate, afterLate, LateUnderWay, beforeLowest, afterLowest, LowestNumber}
 use Rattle.election.specs.declared.Message.{Message}
 use Rattle.election.specs.declared.System.{System}
 use Rattle.settling.proofs.Tested.{every, implies, pairs, sentTest, arrivingTest, eachTest, permittedTest, losesNoneTest, firstTest, Found, found, Says, says, quiet-of}
@@ -103,12 +103,12 @@ the-instance =
     }
 
 -- the longest delays
-slow-found : found (byRules slowBytes .end) (commands slowBytes) slowStretch 255 1 ≡ holding 290 271 32946
+slow-found : found (byRules startedSlow .end) (commands startedSlow) slowStretch 255 1 ≡ holding 290 271 32946
 unfolding computing
 slow-found = refl
 
 pub slow-links : SlowLinks
-slow-links = meets-of (says slowBytes slowStretch 255 1 _ refl slow-found)
+slow-links = meets-of (says startedSlow slowStretch 255 1 _ refl slow-found)
 
 -- a crash of L
 crash-found : found (byRules beforeCrash .end) (commands beforeCrash) withCrash 1 1 ≡ finding true false true true true true 40 38 36

@@ -6,7 +6,7 @@ use mathlib.Core.Bool.{true, false}
 use Prim.Native.Nat.{ℕ, _+_, _<_}
 use lib.ListN.{length, take}
 use Rattle.election.specs.Commands.{ruling}
-use Rattle.election.specs.Rows.{setUp, start, crash, link, run, lose, report, started, at20}
+use Rattle.election.specs.Rows.{setUp, start, crash, link, run, lose, report, started, at20, startedSlow}
 use Rattle.election.specs.Schedule.{schedule}
 use Rattle.settling.specs.Settling.{First, befores, dividedTicks, Only, NoneLost, NoneCut, NoneSentLate, Arriving, Quiet, upHeads, bound, given}
 use Rattle.election.specs.History.{commands, starts}
@@ -64,14 +64,11 @@ pub record Instance : Type 0 where
 
 -- Two stations that start at once, with every delay 255: what 1 sends at tick 17 is heard at 272, and from then on both trust 1. Of 290 ticks 271 are
 -- divided.
-abbrev pub slowBytes : List ℕ
-slowBytes = setUp 2 16 ++ link 1 2 255 ++ link 2 1 255 ++ start 1 ++ start 2
-
 abbrev pub slowStretch : List (List ℕ)
 slowStretch = run 255 ∷ run 35 ∷ []
 
 abbrev pub SlowLinks : Type 0
-SlowLinks = Meets slowBytes slowStretch 255 1 290 271 32946
+SlowLinks = Meets startedSlow slowStretch 255 1 290 271 32946
 
 -- after an accepted schedule some of the conditions hold, and the divided ticks pass the bound
 pub record Passes (bytes : List ℕ) (stretch : List (List ℕ)) (d L : ℕ) (Conditions : System → Type 0) : Type 0 where

@@ -1,4 +1,5 @@
-// Whether a system is sound: every clause of document 01's list, tested, but for the longest delay, which no byte passes. No sum in the tests wraps.
+// Whether a system is sound: every clause of document 01's list, tested, but for the longest delay, which no byte passes. No sum in the
+// tests wraps.
 ghost use mathlib.Core.Path.{_≡_};
 ghost use Prim.Native.Nat.{_+_, _<_, _≤_};
 ghost use Rattle.lists.specs.Test.{allTo};
@@ -13,6 +14,7 @@ use fit::cleared;
 use fit::counts_in;
 use fit::fit;
 use fit::wide;
+use station::LAST_TICK;
 use station::Station;
 
 // The longest delay in ticks, and the count of a link whose places are all used.
@@ -231,6 +233,6 @@ pub fn sound(s: System) -> bool
     }
     let numbers = ((2 <= s.n) & (s.n <= 8))
         & ((16 <= s.period) & (s.period <= 255))
-        & (s.tick <= 1000000);
+        & (s.tick <= LAST_TICK);
     numbers & stations_in(s) & links_in(s)
 }

@@ -44,7 +44,7 @@ module _ (t : ℕ) (s r : System) (g : Going t s r) (h : r .tick < s .tick + t) 
     skipped = until - (r .tick + 1)
 
     after : Held (tick r)
-    after = tick-held r (g .is-sound) (g .is-ready) (omega (arith, g .room))
+    after = tick-held r
 
     at-until : atTick until (tick r) ≡ ticks skipped (tick r)
     unfolding skipped

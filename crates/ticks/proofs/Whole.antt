@@ -6,7 +6,7 @@ use Prim.Native.Nat.{ℕ, _+_, _-_, _*_, _/_, _<_, _≤_}
 use native.Mathlib.Decide.{decLt}
 use native.Mathlib.Omega.{arith}
 use lib.Dec.{ltb}
-use lib.ListN.{length, getD, length-append}
+use lib.ListN.{length, getD}
 use borrow.Author.Tests.{lt-ltb, le-ltb}
 use Rattle.election.specs.Heads.{slotting}
 use Rattle.lists.proofs.Entries.{upTo-same, firsts-get, firsts-beyond, firsts-cond, firsts-idle, length-firsts}
@@ -18,7 +18,7 @@ use Rattle.election.specs.System.{atTick, noStation, noLink, station, place, fr
 use Rattle.election.specs.Tick.{slottedNow, settled, sending, later, sent, underwayAfter, tick, seatNext}
 use Rattle.election.specs.declared.Link.{Link}
 use Rattle.election.specs.declared.System.{System}
-use Rattle.election.proofs.Places.{tick-n, messages-holding}
+use Rattle.election.proofs.Places.{tick-n, messages-held}
 use Rattle.election.proofs.Soundness.{link-of, place-of}
 use Rattle.election.proofs.TickSound.{after-few}
 use Rattle.ticks.specs.Sending.{Ticking, sentOver, sendsNow}
@@ -58,16 +58,11 @@ module _ (s : System) (ticking : Ticking s) (held : Held s) (ls : List Link) (lo
     link-few : length (underwayAfter s (from k) (to k)) ≤ places
     link-few = let (hp, hq, ne) = link-of (s .n) (from k) (to k) (omega arith) (omega arith) i in after-few s (is s ticking) (ticking .room) (from k) (to k) hp hq ne
 
-    kept-few : length (later (s .tick + 1) (messages (getD (s .links) k noLink))) ≤ places
-    kept-few =
-        subst (λ x. length (later (s .tick + 1) (messages (getD (s .links) x noLink))) ≤ places) (place-of k h)
-        (omega (arith, link-few, length-append (later (s .tick + 1) (messages (getD (s .links) (place (from k) (to k)) noLink))) (sent s (from k) (to k))))
-
     kept-is : getD ls k noLink ≡ holding (later (s .tick + 1) (messages (getD (s .links) k noLink)))
     kept-is = kept k h ∙ kept-yes (s .n) (s .tick + 1) s k i
 
     kept-messages : messages (getD ls k noLink) ≡ later (s .tick + 1) (messages (getD (s .links) k noLink))
-    kept-messages = ap messages kept-is ∙ messages-holding (later (s .tick + 1) (messages (getD (s .links) k noLink))) kept-few
+    kept-messages = ap messages kept-is ∙ messages-held (later (s .tick + 1) (messages (getD (s .links) k noLink)))
 
     after-is : messages (getD ls k noLink) ++ sentOver (s .tick + 1) (sendsAt (s .tick + 1) mid (k / 8)) (getD (s .delays) k 0) (getD (mid .stations) (k / 8) noStation .recovered) ≡ underwayAfter s (from k) (to k)
     unfolding sent now
@@ -98,7 +93,7 @@ module _ (s : System) (ticking : Ticking s) (held : Held s) (ls : List Link) (lo
             let i : isLink (s .n) (from (8 * p + q)) (to (8 * p + q)) ≡ true = linked (s .n) p q (is s ticking .n-high) hp hq ne in
             subst (λ j. length (messages (getD ls (8 * p + q) noLink) ++ sentOver (s .tick + 1) (sendsAt (s .tick + 1) mid j) (getD (s .delays) (8 * p + q) 0) (getD (mid .stations) j noStation .recovered)) ≤ places) z
             (subst (λ ms. length ms ≤ places) (sym (after-is (8 * p + q) h i)) (link-few (8 * p + q) h i));
-        held = λ k h i. subst (λ l. holding (messages l) ≡ l) (sym (kept-is k h i)) (ap holding (messages-holding (later (s .tick + 1) (messages (getD (s .links) k noLink))) (kept-few k h i)));
+        held = λ k h i. subst (λ l. holding (messages l) ≡ l) (sym (kept-is k h i)) (ap holding (messages-held (later (s .tick + 1) (messages (getD (s .links) k noLink)))));
       }
 
   done : System

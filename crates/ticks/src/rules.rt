@@ -18,12 +18,10 @@ use election::PLACES;
 use fit::least;
 use layout::Layout;
 use layout::rules::unused;
+use station::LAST_TICK;
 use station::rules::expire;
 use station::rules::hear;
 use station::rules::slot;
-
-// The last tick: a run ends by then.
-const LAST_TICK: u32 = 1000000;
 
 // What a run leaves: the system, and a tick up to which each tick only raises the counter.
 pub struct Ran {
@@ -44,8 +42,9 @@ fn ticks_of(d: u8) -> u32
     d as u32
 }
 
-// The system after t ticks, and a tick up to which nothing more is due. In a tick what is due is heard, sender by sender, past those that have nothing under way; then each timer and
-// each send chance that is due is done; then the counter goes on to `until`, or to the end of the run: up to `until` nothing is due.
+// The system after t ticks, and a tick up to which nothing more is due. In a tick what is due is heard, sender by sender, past those
+// that have nothing under way; then each timer and each send chance that is due is done; then the counter goes on to `until`, up to which
+// nothing is due, or to the end of the run.
 pub fn run(t: u32, mut s: Layout) -> Ran
     requires { ⌜ (sound (systemOf s) ≡ true) × (s .ready ≡ true) × (s .tick + t ≤ lastTick) ⌝ }
     ensures { λ r. ⌜ systemOf (r .system) ≡ ticks t (systemOf s) ⌝ }
