@@ -260,8 +260,10 @@ static void report(void) {
         at = put_text(at, "dark");
     else if (split)
         at = put_text(at, "split");
-    else
+    else if (station[leader].up)
         at = put_number(put_text(at, "agreed "), leader);
+    else
+        at = put_number(put_text(at, "agreed dark "), leader);
     *at++ = '\n';
     fwrite(listing, 1, (size_t)(at - listing), stdout);
 }

@@ -1,4 +1,4 @@
-// Document 01 once more, with Paper 1 of document 02, in plain Rust: reads a schedule from standard input, does its commands tick by tick and
+// Document 01 once more, with Papers 1 and 2 of document 02, in plain Rust: reads a schedule from standard input, does its commands tick by tick and
 // prints what the rehearsal program must print. Written from the papers alone; tests/compare holds the product to it.
 
 use std::io::{self, BufWriter, Read, Write};
@@ -183,10 +183,12 @@ impl Desk {
             );
         }
         let leaders: Vec<u64> = self.stations.iter().filter_map(|s| s.up.as_ref()).map(|up| up.leader).collect();
+        let is_up = |number: u64| self.stations.iter().any(|s| s.number == number && s.up.is_some());
         text += &match leaders.first() {
             None => "dark\n".to_string(),
-            Some(first) if leaders.iter().all(|l| l == first) => format!("agreed {first}\n"),
-            Some(_) => "split\n".to_string(),
+            Some(first) if leaders.iter().any(|l| l != first) => "split\n".to_string(),
+            Some(&first) if is_up(first) => format!("agreed {first}\n"),
+            Some(first) => format!("agreed dark {first}\n"), // paper 2
         };
         text
     }

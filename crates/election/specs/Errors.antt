@@ -23,7 +23,7 @@ fourPrinted =
     ++ text "tick 20\n"
     ++ text "1 down leader - inc 1 rec - sent 1 kept 1\n"
     ++ text "2 up leader 1 inc 1 rec 1,1 sent 1 kept 2\n"
-    ++ text "agreed 1\n"
+    ++ text "agreed dark 1\n"
     ++ text "tick 120\n"
     ++ text "1 down leader - inc 1 rec - sent 1 kept 1\n"
     ++ text "2 up leader 2 inc 1 rec 1,1 sent 6 kept 2\n"
@@ -44,12 +44,39 @@ againPrinted =
     text "tick 54\n"
     ++ text "1 down leader - inc 1 rec - sent 2 kept 1\n"
     ++ text "2 up leader 1 inc 2 rec 0,2 sent 0 kept 1\n"
-    ++ text "agreed 1\n"
+    ++ text "agreed dark 1\n"
     ++ text "tick 55\n"
     ++ text "1 down leader - inc 1 rec - sent 2 kept 1\n"
     ++ text "2 up leader 2 inc 2 rec 0,2 sent 1 kept 2\n"
     ++ text "agreed 2\n"
     ++ text "end 27\n"
+
+-- station 1, which both trust, crashes at tick 20: 2 trusts the dark one until its timer ends at 35; or 1 is up again at 21, before that
+abbrev pub leaderCrashes : List ℕ
+leaderCrashes = at20 ++ crash 1 ++ run 14 ++ report ++ run 1 ++ report
+
+abbrev pub crashPrinted : List ℕ
+crashPrinted =
+    text "tick 34\n"
+    ++ text "1 down leader - inc 1 rec - sent 1 kept 1\n"
+    ++ text "2 up leader 1 inc 1 rec 1,1 sent 1 kept 2\n"
+    ++ text "agreed dark 1\n"
+    ++ text "tick 35\n"
+    ++ text "1 down leader - inc 1 rec - sent 1 kept 1\n"
+    ++ text "2 up leader 2 inc 1 rec 1,1 sent 1 kept 2\n"
+    ++ text "agreed 2\n"
+    ++ text "end 20\n"
+
+abbrev pub leaderReturns : List ℕ
+leaderReturns = at20 ++ crash 1 ++ run 1 ++ start 1 ++ report
+
+abbrev pub returnPrinted : List ℕ
+returnPrinted =
+    text "tick 21\n"
+    ++ text "1 up leader 1 inc 2 rec 2,0 sent 1 kept 1\n"
+    ++ text "2 up leader 1 inc 1 rec 1,1 sent 1 kept 2\n"
+    ++ text "agreed 1\n"
+    ++ text "end 18\n"
 
 abbrev pub errors : List Row
 errors =
@@ -95,6 +122,8 @@ abbrev pub prints : List Row
 prints =
     record { bytes = fourReports; view = Printed; seen = fourPrinted }
     ∷ record { bytes = startedAgain; view = Printed; seen = againPrinted }
+    ∷ record { bytes = leaderCrashes; view = Printed; seen = crashPrinted }
+    ∷ record { bytes = leaderReturns; view = Printed; seen = returnPrinted }
     ∷ []
 
 -- a listing at each of two reports, before any start

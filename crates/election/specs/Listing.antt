@@ -1,7 +1,7 @@
 -- The listing, and what the rehearsal program prints ("Frame and listing" of document 01), as bytes.
 use mathlib.Core.List.{List, [], _∷_, _++_}
-use mathlib.Core.Bool.{Bool, true, false, cond, not}
-use Prim.Native.Nat.{ℕ, zero, suc, _+_, _/_, _%_}
+use mathlib.Core.Bool.{Bool, true, false, cond, not, _&&_}
+use Prim.Native.Nat.{ℕ, zero, suc, _+_, _-_, _/_, _%_}
 use lib.ListN.{length, getD, drop}
 use lib.Dec.{leb, ltb, eqb}
 use Rattle.lists.specs.Entries.{over}
@@ -9,6 +9,7 @@ use Rattle.lists.specs.First.{firstFailed}
 use Rattle.lists.specs.Fold.{each}
 use Rattle.lists.specs.Join.{joinTo}
 use Rattle.lists.specs.Test.{allTo}
+use Rattle.fit.specs.Fit.{within}
 use Rattle.station.specs.declared.Station.{Station}
 use Rattle.election.specs.Commands.{Result, command, refusalOf, lengthOf}
 use Rattle.election.specs.Schedule.{End, mostBytes, schedule}
@@ -17,7 +18,7 @@ use Rattle.election.specs.System.{noStation, fresh}
 use Rattle.election.specs.declared.Answer.{Answer}
 use Rattle.election.specs.declared.System.{System}
 use Rattle.election.specs.declared.Verdict.{Verdict}
-use Rattle.election.specs.declared.Verdict.the-variants.{Dark, Agreed, Split}
+use Rattle.election.specs.declared.Verdict.the-variants.{Dark, Agreed, AgreedDark, Split}
 
 -- decimal digits of a number below 10^fuel
 unfoldable pub digits : ℕ → ℕ → List ℕ
@@ -32,7 +33,7 @@ decimal x = digits 20 x
 abbrev pub newline : List ℕ
 newline = 0x0a ∷ []
 
--- "tick ", " up", " down", " leader ", " inc ", " rec ", " sent ", " kept ", "-", "dark", "agreed ", "split", "end ", "refused ", " at "
+-- "tick ", " up", " down", " leader ", " inc ", " rec ", " sent ", " kept ", "-", "dark", "agreed ", "agreed dark ", "split", "end ", "refused ", " at "
 abbrev pub tickWord : List ℕ
 tickWord = 116 ∷ 105 ∷ 99 ∷ 107 ∷ 32 ∷ []
 
@@ -65,6 +66,9 @@ darkWord = 100 ∷ 97 ∷ 114 ∷ 107 ∷ []
 
 abbrev pub agreedWord : List ℕ
 agreedWord = 97 ∷ 103 ∷ 114 ∷ 101 ∷ 101 ∷ 100 ∷ 32 ∷ []
+
+abbrev pub agreedDarkWord : List ℕ
+agreedDarkWord = agreedWord ++ darkWord ++ (32 ∷ [])
 
 abbrev pub splitWord : List ℕ
 splitWord = 115 ∷ 112 ∷ 108 ∷ 105 ∷ 116 ∷ []
@@ -134,15 +138,21 @@ leaderAfter x l = cond (x .up) (x .leader) l
 unfoldable pub aLeader : ℕ → List Station → ℕ
 aLeader n stations = each n (λ k l. leaderAfter (getD stations k noStation) l) 0
 
--- dark if none is up, agreed L if all up stations trust the same L, else split
+-- station l is one of the first n, and up
+unfoldable pub upAmong : ℕ → List Station → ℕ → Bool
+upAmong n stations l = within 1 l n && getD stations (l - 1) noStation .up
+
+-- dark if none is up; if all up stations trust the same L, agreed L if L is up and agreed dark L if not; else split
 unfoldable pub verdict : ℕ → List Station → Verdict
 verdict n stations =
     let l : ℕ = aLeader n stations in
-    cond (dark n stations) Dark (cond (agreed n stations l) (Agreed l) Split)
+    cond (dark n stations) Dark
+    (cond (agreed n stations l) (cond (upAmong n stations l) (Agreed l) (AgreedDark l)) Split)
 
 unfoldable pub verdictLine : Verdict → List ℕ
 verdictLine Dark = darkWord ++ newline
 verdictLine (Agreed l) = agreedWord ++ decimal l ++ newline
+verdictLine (AgreedDark l) = agreedDarkWord ++ decimal l ++ newline
 verdictLine Split = splitWord ++ newline
 
 -- the tick, a line for each station, and the verdict

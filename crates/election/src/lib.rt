@@ -61,10 +61,11 @@ pub enum Answer {
     Refused(Refusal),
 }
 
-// Whether no station is up, all up stations trust the same one, or they differ.
+// Whether no station is up; all up stations trust the same one, and it is up; they do, and it is down; or they differ.
 pub enum Verdict {
     Dark,
     Agreed(u8),
+    AgreedDark(u8),
     Split,
 }
 

@@ -12,7 +12,7 @@ use Rattle.election.specs.Listing.{decimal, newline, upWord, downWord, noneWord
 use Rattle.lists.specs.Join.{joinTo}
 use Rattle.listing.specs.Pieces.{who, known, ends}
 use Rattle.election.specs.declared.Verdict.{Verdict}
-use Rattle.election.specs.declared.Verdict.the-variants.{Dark, Agreed, Split}
+use Rattle.election.specs.declared.Verdict.the-variants.{Dark, Agreed, AgreedDark, Split}
 use Rattle.listing.specs.Room.{ListingRoom, EndRoom}
 use Rattle.listing.proofs.Digits.{length-decimal}
 use Rattle.listing.proofs.Same.{line-is, size-is}
@@ -54,10 +54,11 @@ lines-room : (n : ℕ) (stations : List Station) (sent : List ℕ) → n ≤ 8 �
 unfolding stationLines
 lines-room n stations sent h = joined (λ k. stationLine n (k + 1) (getD stations k noStation) (getD sent k 0)) 320 n (λ k. line-room n (k + 1) (getD stations k noStation) (getD sent k 0) h)
 
-verdict-room : (v : Verdict) → length (verdictLine v) ≤ 28
+verdict-room : (v : Verdict) → length (verdictLine v) ≤ 33
 unfolding verdictLine
 verdict-room Dark = omega arith
 verdict-room (Agreed l) = simp length-append (omega (arith, length-decimal l))
+verdict-room (AgreedDark l) = simp length-append (omega (arith, length-decimal l))
 verdict-room Split = omega arith
 
 pub listing-room : ListingRoom

@@ -3,7 +3,7 @@ ghost use mathlib.Core.Path.{_≡_};
 ghost use Prim.Native.Nat.{_+_, _≤_};
 ghost use lib.ListN.{length};
 ghost use mathlib.Core.Bool.{cond};
-ghost use Rattle.election.specs.Listing.{upWord, downWord, countOf, vector, status, leaderOf, vectorOf, stationLine, stationLines, dark, trusts, agreed, leaderAfter, aLeader, verdict, verdictLine, listingOf};
+ghost use Rattle.election.specs.Listing.{upWord, downWord, countOf, vector, status, leaderOf, vectorOf, stationLine, stationLines, dark, trusts, agreed, leaderAfter, aLeader, upAmong, verdict, verdictLine, listingOf};
 ghost use Rattle.listing.specs.Pieces.{who, known, ends};
 ghost use Rattle.listing.specs.Wrote.{Wrote};
 use crate::text::put;
@@ -185,6 +185,19 @@ fn last_leader(n: usize, stations: [Station; 8]) -> u8
     l
 }
 
+// Whether station l is one of the first n, and up.
+fn up_among(n: usize, stations: [Station; 8], l: u8) -> bool
+    requires { ⌜ n ≤ 8 ⌝ }
+    ensures { λ r. ⌜ r ≡ upAmong n stations l ⌝ }
+{
+    let p = l as usize;
+    if (1 <= p) & (p <= n) {
+        let x = stations[p - 1];
+        return x.up;
+    }
+    false
+}
+
 // The verdict on the first n stations.
 pub fn verdict(n: usize, stations: [Station; 8]) -> Verdict
     requires { ⌜ n ≤ 8 ⌝ }
@@ -194,10 +207,13 @@ pub fn verdict(n: usize, stations: [Station; 8]) -> Verdict
         return Verdict::Dark;
     }
     let l = last_leader(n, stations);
-    if all_trust(n, stations, l) {
+    if !all_trust(n, stations, l) {
+        return Verdict::Split;
+    }
+    if up_among(n, stations, l) {
         return Verdict::Agreed(l);
     }
-    Verdict::Split
+    Verdict::AgreedDark(l)
 }
 
 // Writes the verdict.
@@ -208,6 +224,7 @@ fn put_verdict(v: Verdict, buffer: &mut [u8]) -> usize
     match v {
         Verdict::Dark => put(b"dark\n", buffer),
         Verdict::Agreed(l) => put_last(b"agreed ", l as u64, buffer),
+        Verdict::AgreedDark(l) => put_last(b"agreed dark ", l as u64, buffer),
         Verdict::Split => put(b"split\n", buffer),
     }
 }

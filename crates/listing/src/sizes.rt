@@ -81,11 +81,12 @@ fn lines_size(n: usize, stations: [Station; 8], sent: [u32; 8]) -> usize
 
 // The length of a verdict's line.
 fn verdict_size(v: Verdict) -> usize
-    ensures { λ r. ⌜ (r ≡ length (verdictLine v)) × (r ≤ 28) ⌝ }
+    ensures { λ r. ⌜ (r ≡ length (verdictLine v)) × (r ≤ 33) ⌝ }
 {
     match v {
         Verdict::Dark => 5,
         Verdict::Agreed(l) => decimal_size(l as u64) + 8,
+        Verdict::AgreedDark(l) => decimal_size(l as u64) + 13,
         Verdict::Split => 6,
     }
 }

@@ -33,6 +33,15 @@ pub or-right : (a b : Bool) → b ≡ true → (a || b) ≡ true
 or-right true b e = refl
 or-right false b e = e
 
+-- a test that can only hold, and one that can only fail
+pub true-unless : (b : Bool) → (b ≡ false → ⊥) → b ≡ true
+true-unless true f = refl
+true-unless false f = absurd (f refl)
+
+pub false-unless : (b : Bool) → (b ≡ true → ⊥) → b ≡ false
+false-unless true f = absurd (f refl)
+false-unless false f = refl
+
 -- what holds of both, where its test says so, holds of the one chosen
 pub cond-elim : {A : Type 0} (P : A → Type 0) (b : Bool) {x y : A} → (b ≡ true → P x) → (b ≡ false → P y) → P (cond b x y)
 cond-elim P true p q = p refl

@@ -13,6 +13,10 @@ put-last-requires : tie.Need-put-last-requires
 unfolding verdictLine
 put-last-requires c κs = omega (arith, rw (c .before .before .before .v .given .1) at (c .before .before .before .before .before .before .pre))
 
+put-last-requires-2 : tie.Need-put-last-requires-2
+unfolding verdictLine
+put-last-requires-2 c κs = omega (arith, rw (c .before .before .before .v2 .given .1) at (c .before .before .before .before .before .before .pre))
+
 put-requires-2 : tie.Need-put-requires-2
 unfolding verdictLine
 put-requires-2 c κs = omega (arith, rw (c .before .before .enum-told2 .given .1) at (c .before .before .before .before .before .pre))
@@ -27,7 +31,11 @@ returns-2 c = rw (c .before .before .before .before .before .before .v .given .1
 
 returns-3 : tie.Need-returns-3
 unfolding verdictLine
-returns-3 c = rw (c .before .before .before .before .before .enum-told2 .given .1) (c .before .before .put2 .ensures)
+returns-3 c = rw (c .before .before .before .before .before .before .v2 .given .1) (c .before .before .put-last2 .ensures)
+
+returns-4 : tie.Need-returns-4
+unfolding verdictLine
+returns-4 c = rw (c .before .before .before .before .before .enum-told2 .given .1) (c .before .before .put2 .ensures)
 
 pub put-verdict-spec : {M : Type 1} → statement M
 put-verdict-spec =
@@ -42,10 +50,16 @@ put-verdict-spec =
     put-last-requires
     (λ c. search needs)
     (λ c. search needs)
+    (λ c. search needs)
+    put-last-requires-2
+    (λ c. search needs)
+    (λ c. search needs)
     put-requires-2
     (λ c. search needs)
     returns
     (λ c. search needs)
     returns-2
     (λ c. search needs)
-    returns-3)
+    returns-3
+    (λ c. search needs)
+    returns-4)

@@ -16,7 +16,11 @@ returns-2 c = (rw (c .before .before .v .given .1) (simp length-append (omega ar
 
 returns-3 : tie.Need-returns-3
 unfolding verdictLine
-returns-3 c = (rw (c .enum-told2 .given .1), omega arith)
+returns-3 c = (rw (c .before .before .v2 .given .1) (simp length-append (omega arith)), omega arith)
+
+returns-4 : tie.Need-returns-4
+unfolding verdictLine
+returns-4 c = (rw (c .enum-told2 .given .1), omega arith)
 
 pub verdict-size-spec : {M : Type 1} → statement M
 verdict-size-spec =
@@ -28,6 +32,11 @@ verdict-size-spec =
     (λ c κs. search needs)
     (λ c. search needs)
     (λ c. search needs)
+    (λ c. search needs)
+    (λ c κs. search needs)
+    (λ c. search needs)
+    (λ c. search needs)
     returns
     returns-2
-    returns-3)
+    returns-3
+    returns-4)
