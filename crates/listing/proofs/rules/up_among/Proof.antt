@@ -7,7 +7,7 @@ use Rattle.listing.proofs.rules.up_among.Tie as tie
 use Rattle.listing.proofs.rules.up_among.Statement.{statement}
 
 sub-x : tie.Need-sub-x
-sub-x c = within-of 1 (c .before .args .l) (c .before .args .n) (c .if1 .taken) .0
+sub-x c = let (low, high) = within-of 1 (c .before .args .l) (c .before .args .n) (c .if1 .taken) in omega (arith, low, high)
 
 array-copy-out-x : tie.Need-array-copy-out-x
 array-copy-out-x c = let (low, high) = within-of 1 (c .before .args .l) (c .before .args .n) (c .if1 .taken) in omega (arith, low, high, c .before .pre)
