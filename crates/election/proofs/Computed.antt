@@ -2,7 +2,7 @@
 use mathlib.Core.Path.{refl}
 use Rattle.lists.specs.Join.{joinTo}
 use Rattle.election.specs.Errors.{errors, prints, DarkTwice, Decimals, FreshWhole, SetUpWhole, EightWhole}
-use Rattle.election.specs.Listing.{digits, countOf, vector, status, leaderOf, vectorOf, stationLine, stationLines, dark, agreed, aLeader, upAmong, verdict, verdictLine, listingOf, reported, endLine, reports, output}
+use Rattle.election.specs.Listing.{digits, countOf, vector, status, leaderOf, vectorOf, stationLine, stationLines, dark, allTrust, aLeader, upAmong, verdict, verdictLine, listingOf, reported, endLine, reports, output}
 use Rattle.election.specs.Rehearsals.{rehearsals}
 use Rattle.election.specs.Text.{text}
 use Rattle.election.proofs.Opened.{rules}
@@ -10,7 +10,7 @@ use Rattle.election.proofs.Ruled.{ruled, HoldRuled}
 
 -- what is opened to compute what is printed
 unfoldable printing : Unit {0}
-unfolding rules ruled text digits joinTo countOf vector status leaderOf vectorOf stationLine stationLines dark agreed aLeader upAmong verdict verdictLine listingOf reported endLine
+unfolding rules ruled text digits joinTo countOf vector status leaderOf vectorOf stationLine stationLines dark allTrust aLeader upAmong verdict verdictLine listingOf reported endLine
 printing = tt
 
 pub errors-ruled : HoldRuled errors
@@ -19,7 +19,7 @@ errors-ruled = ((refl, refl), ((refl, refl), ((refl, refl), ((refl, refl), ((ref
 
 pub prints-ruled : HoldRuled prints
 unfolding printing
-prints-ruled = ((refl, refl), ((refl, refl), ((refl, refl), ((refl, refl), tt))))
+prints-ruled = ((refl, refl), ((refl, refl), ((refl, refl), ((refl, refl), ((refl, refl), tt)))))
 
 -- these from the definitions themselves
 pub spelled-out : DarkTwice × Decimals × FreshWhole × SetUpWhole × EightWhole

@@ -17,8 +17,8 @@ use Rattle.lists.proofs.Entries.{length-upTo, getD-upTo}
 use Rattle.lists.proofs.Fold.{each-keeps}
 use Rattle.station.specs.declared.Station.{Station}
 use Rattle.election.specs.Heads.{hearing, expiring, slotting}
-use Rattle.election.specs.Order.{Mail, Desk, deskOf, stationOf, ascending, dueNow, Delivery, delivery, deliveries, delivered, deliveredAll, timerEnds, sentTo, sentToAll, sendsNow, chance, afterDeliveries, afterTimers, afterChances, PaperOrder, PaperSent}
-use Rattle.election.specs.System.{noStation, station, underway, messages}
+use Rattle.election.specs.Order.{Mail, Desk, deskOf, ascending, dueNow, Delivery, delivery, deliveries, delivered, deliveredAll, timerEnds, sentTo, sentToAll, sendsNow, chance, afterDeliveries, afterTimers, afterChances, PaperOrder, PaperSent}
+use Rattle.election.specs.System.{noStation, stationOf, station, underway, messages}
 use Rattle.election.specs.Tick.{next, heardLink, heardAll, expiredNow, slottedNow, heardBy, settled, sending, stationNext, seatNext, sentNext, tick}
 use Rattle.election.specs.declared.Message.{Message}
 use Rattle.election.specs.declared.System.{System}

@@ -9,7 +9,8 @@ use lib.ListN.{length, getD, replicate}
 use borrow.Author.Tests.{lt-ltb, ne-eqb}
 use Rattle.lists.specs.Entries.{upTo}
 use Rattle.lists.proofs.Entries.{getD-upTo, take-over}
-use Rattle.election.specs.System.{noStation, noLink, station, place, from, to, sentBy, messages, holding, underway, isLink, places}
+use Rattle.station.specs.declared.Station.{Station}
+use Rattle.election.specs.System.{noStation, noLink, stationOf, station, place, from, to, sentBy, messages, holding, underway, isLink, places}
 use Rattle.election.specs.Tick.{sending, stationNext, underwayAfter, seatNext, sentNext, linkNext, tick}
 use Rattle.election.specs.declared.Message.{Message}
 use Rattle.election.specs.declared.System.{System}
@@ -23,8 +24,11 @@ pub record In (n p : ℕ) : Type 0 where
 pub seat-in : (n k : ℕ) → k < n → In n (k + 1)
 seat-in n k h = record { low = omega arith; high = omega arith }
 
+pub seat-at : (stations : List Station) (k : ℕ) → stationOf stations (k + 1) ≡ getD stations k noStation
+seat-at stations k = let e : k + 1 - 1 ≡ k = omega arith in rw e
+
 pub seat-of : (s : System) (k : ℕ) → station s (k + 1) ≡ getD (s .stations) k noStation
-seat-of s k = let e : k + 1 - 1 ≡ k = omega arith in rw e
+seat-of s k = seat-at (s .stations) k
 
 -- a link's place, and the link at it
 module _ (p q : ℕ) (hp : In 8 p) (hq : In 8 q) where

@@ -50,11 +50,11 @@ breaches s =
     ∷ withLink 1 1 (holding (message 33 35 ∷ [])) s
     ∷ []
 
-unfoldable pub verdicts : List System → List Bool
-verdicts [] = []
-verdicts (s ∷ ss) = sound s ∷ verdicts ss
+unfoldable pub soundEach : List System → List Bool
+soundEach [] = []
+soundEach (s ∷ ss) = sound s ∷ soundEach ss
 
 abbrev pub Clauses : Type 0
 Clauses =
-    (verdicts (sounds base) ≡ true ∷ true ∷ true ∷ [])
-    × (verdicts (breaches base) ≡ false ∷ false ∷ false ∷ false ∷ false ∷ false ∷ false ∷ false ∷ false ∷ false ∷ [])
+    (soundEach (sounds base) ≡ true ∷ true ∷ true ∷ [])
+    × (soundEach (breaches base) ≡ false ∷ false ∷ false ∷ false ∷ false ∷ false ∷ false ∷ false ∷ false ∷ false ∷ [])

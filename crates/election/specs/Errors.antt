@@ -1,4 +1,4 @@
--- Errors that the papers warn of, or that no other theorem rules out: a computed row for each, which the wrong rule would fail.
+-- Errors that the papers warn of, or that no other theorem rules out: a computed row for each, which the wrong rule would fail; and listings of Paper 2.
 use mathlib.Core.Path.{_≡_}
 use mathlib.Core.List.{List, [], _∷_, _++_, map}
 use mathlib.Core.Bool.{Bool, true, false}
@@ -51,7 +51,7 @@ againPrinted =
     ++ text "agreed 2\n"
     ++ text "end 27\n"
 
--- station 1, which both trust, crashes at tick 20: 2 trusts the dark one until its timer ends at 35; or 1 is up again at 21, before that
+-- Paper 2: station 1, whom both trust, crashes at tick 20, and 2 trusts it until its timer ends at 35; or 1 is up again at 21, before that
 abbrev pub leaderCrashes : List ℕ
 leaderCrashes = at20 ++ crash 1 ++ run 14 ++ report ++ run 1 ++ report
 
@@ -77,6 +77,19 @@ returnPrinted =
     ++ text "2 up leader 1 inc 1 rec 1,1 sent 1 kept 2\n"
     ++ text "agreed 1\n"
     ++ text "end 18\n"
+
+-- three stations trust 2, which was started once and 1 twice, and 2 crashes
+abbrev pub secondCrashes : List ℕ
+secondCrashes = setUp 3 16 ++ start 1 ++ crash 1 ++ start 1 ++ start 2 ++ start 3 ++ run 20 ++ crash 2 ++ report
+
+abbrev pub secondPrinted : List ℕ
+secondPrinted =
+    text "tick 20\n"
+    ++ text "1 up leader 2 inc 2 rec 2,1,1 sent 0 kept 2\n"
+    ++ text "2 down leader - inc 1 rec - sent 2 kept 2\n"
+    ++ text "3 up leader 2 inc 1 rec 0,1,1 sent 2 kept 3\n"
+    ++ text "agreed dark 2\n"
+    ++ text "end 19\n"
 
 abbrev pub errors : List Row
 errors =
@@ -124,6 +137,7 @@ prints =
     ∷ record { bytes = startedAgain; view = Printed; seen = againPrinted }
     ∷ record { bytes = leaderCrashes; view = Printed; seen = crashPrinted }
     ∷ record { bytes = leaderReturns; view = Printed; seen = returnPrinted }
+    ∷ record { bytes = secondCrashes; view = Printed; seen = secondPrinted }
     ∷ []
 
 -- a listing at each of two reports, before any start

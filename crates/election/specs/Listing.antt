@@ -1,7 +1,7 @@
--- The listing, and what the rehearsal program prints ("Frame and listing" of document 01), as bytes.
+-- The listing, and what the rehearsal program prints ("Frame and listing" of document 01, with Paper 2 of document 02), as bytes.
 use mathlib.Core.List.{List, [], _∷_, _++_}
 use mathlib.Core.Bool.{Bool, true, false, cond, not, _&&_}
-use Prim.Native.Nat.{ℕ, zero, suc, _+_, _-_, _/_, _%_}
+use Prim.Native.Nat.{ℕ, zero, suc, _+_, _/_, _%_}
 use lib.ListN.{length, getD, drop}
 use lib.Dec.{leb, ltb, eqb}
 use Rattle.lists.specs.Entries.{over}
@@ -14,7 +14,7 @@ use Rattle.station.specs.declared.Station.{Station}
 use Rattle.election.specs.Commands.{Result, command, refusalOf, lengthOf}
 use Rattle.election.specs.Schedule.{End, mostBytes, schedule}
 use Rattle.election.specs.Sound.{sound}
-use Rattle.election.specs.System.{noStation, fresh}
+use Rattle.election.specs.System.{noStation, stationOf, fresh}
 use Rattle.election.specs.declared.Answer.{Answer}
 use Rattle.election.specs.declared.System.{System}
 use Rattle.election.specs.declared.Verdict.{Verdict}
@@ -128,8 +128,8 @@ dark n stations = allTo n (λ k. not (getD stations k noStation .up))
 abbrev pub trusts : ℕ → Station → Bool
 trusts l x = cond (x .up) (eqb (x .leader) l) true
 
-unfoldable pub agreed : ℕ → List Station → ℕ → Bool
-agreed n stations l = allTo n (λ k. trusts l (getD stations k noStation))
+unfoldable pub allTrust : ℕ → List Station → ℕ → Bool
+allTrust n stations l = allTo n (λ k. trusts l (getD stations k noStation))
 
 -- the leader of a station that is up, else l; and of the last one up among the first n, 0 if none is
 abbrev pub leaderAfter : Station → ℕ → ℕ
@@ -140,14 +140,14 @@ aLeader n stations = each n (λ k l. leaderAfter (getD stations k noStation) l) 
 
 -- station l is one of the first n, and up
 unfoldable pub upAmong : ℕ → List Station → ℕ → Bool
-upAmong n stations l = within 1 l n && getD stations (l - 1) noStation .up
+upAmong n stations l = within 1 l n && stationOf stations l .up
 
 -- dark if none is up; if all up stations trust the same L, agreed L if L is up and agreed dark L if not; else split
 unfoldable pub verdict : ℕ → List Station → Verdict
 verdict n stations =
     let l : ℕ = aLeader n stations in
     cond (dark n stations) Dark
-    (cond (agreed n stations l) (cond (upAmong n stations l) (Agreed l) (AgreedDark l)) Split)
+    (cond (allTrust n stations l) (cond (upAmong n stations l) (Agreed l) (AgreedDark l)) Split)
 
 unfoldable pub verdictLine : Verdict → List ℕ
 verdictLine Dark = darkWord ++ newline

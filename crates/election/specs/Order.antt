@@ -11,7 +11,7 @@ use Rattle.lists.specs.Fold.{each}
 use Rattle.station.specs.declared.Station.{Station}
 use Rattle.election.specs.Heads.{hearing, expiring, slotting, announces}
 use Rattle.election.specs.Sound.{sound}
-use Rattle.election.specs.System.{noStation, noLink, place, from, to, delay, messages, holding, underway, isLink}
+use Rattle.election.specs.System.{noStation, noLink, stationOf, place, from, to, delay, messages, holding, underway, isLink}
 use Rattle.election.specs.Tick.{next, tick}
 use Rattle.election.specs.declared.Link.{Link}
 use Rattle.election.specs.declared.Message.{Message}
@@ -30,10 +30,7 @@ pub record Desk : Type 0 where
 abbrev pub deskOf : System → Desk
 deskOf s = record { stations = s .stations; sent = s .sent; mail = map messages (s .links) }
 
--- station p of a list of stations, and the messages under way from p to q
-abbrev pub stationOf : List Station → ℕ → Station
-stationOf xs p = getD xs (p - 1) noStation
-
+-- the messages under way from p to q
 abbrev pub mailOf : Mail → ℕ → ℕ → List Message
 mailOf mail p q = getD mail (place p q) []
 

@@ -36,9 +36,13 @@ noMessage = record { sent = 0; due = 0; counts = [] }
 abbrev pub noLink : Link
 noLink = record { used = 0; messages = [] }
 
+-- station p of a list of stations
+abbrev pub stationOf : List Station → ℕ → Station
+stationOf stations p = getD stations (p - 1) noStation
+
 -- station p, the delay from p to q, and how many messages p has sent
 abbrev pub station : System → ℕ → Station
-station s p = getD (s .stations) (p - 1) noStation
+station s p = stationOf (s .stations) p
 
 -- where the link from p to q stands, and which link stands at a place
 abbrev pub place : ℕ → ℕ → ℕ

@@ -61,7 +61,7 @@ pub enum Answer {
     Refused(Refusal),
 }
 
-// Whether no station is up; all up stations trust the same one, and it is up; they do, and it is down; or they differ.
+// The verdict: no station is up; all up stations trust L, and L is up; all trust L, and L is down; or they differ.
 pub enum Verdict {
     Dark,
     Agreed(u8),

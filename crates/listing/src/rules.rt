@@ -3,7 +3,7 @@ ghost use mathlib.Core.Path.{_≡_};
 ghost use Prim.Native.Nat.{_+_, _≤_};
 ghost use lib.ListN.{length};
 ghost use mathlib.Core.Bool.{cond};
-ghost use Rattle.election.specs.Listing.{upWord, downWord, countOf, vector, status, leaderOf, vectorOf, stationLine, stationLines, dark, trusts, agreed, leaderAfter, aLeader, upAmong, verdict, verdictLine, listingOf};
+ghost use Rattle.election.specs.Listing.{upWord, downWord, countOf, vector, status, leaderOf, vectorOf, stationLine, stationLines, dark, trusts, allTrust, leaderAfter, aLeader, upAmong, verdict, verdictLine, listingOf};
 ghost use Rattle.listing.specs.Pieces.{who, known, ends};
 ghost use Rattle.listing.specs.Wrote.{Wrote};
 use crate::text::put;
@@ -156,7 +156,7 @@ fn trusts(x: Station, l: u8) -> bool
 // Whether all up stations among the first n trust l.
 fn all_trust(n: usize, stations: [Station; 8], l: u8) -> bool
     requires { ⌜ n ≤ 8 ⌝ }
-    ensures { λ r. ⌜ r ≡ agreed n stations l ⌝ }
+    ensures { λ r. ⌜ r ≡ allTrust n stations l ⌝ }
 {
     for k in 0..n {
         if !trusts(stations[k], l) {

@@ -1,4 +1,4 @@
--- Tests joined by "and" and "or", taken apart; and a choice by a test.
+-- Tests joined by "and" and "or", taken apart; tests that can only come out one way; and a choice by a test.
 use mathlib.Core.Path.{_≡_, refl, sym, _∙_}
 use mathlib.Core.Logic.{_⊎_}
 use mathlib.Core.Logic._⊎_.{inl, inr}
@@ -33,7 +33,7 @@ pub or-right : (a b : Bool) → b ≡ true → (a || b) ≡ true
 or-right true b e = refl
 or-right false b e = e
 
--- a test that can only hold, and one that can only fail
+-- a test that cannot fail holds, and one that cannot hold fails
 pub true-unless : (b : Bool) → (b ≡ false → ⊥) → b ≡ true
 true-unless true f = refl
 true-unless false f = absurd (f refl)

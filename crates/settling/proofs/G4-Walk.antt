@@ -16,7 +16,7 @@ use Rattle.lists.proofs.Every.{all-left, all-right}
 use Rattle.lists.proofs.Test.{all-same}
 use Rattle.election.specs.Commands.{Command, SetUp, Start, Crash, Link, Run, Lose, Report, decode, perform}
 use Rattle.election.specs.System.{withDelay, withoutMessages, noStation, station, delay, underway}
-use Rattle.election.specs.Listing.{trusts, agreed}
+use Rattle.election.specs.Listing.{trusts, allTrust}
 use Rattle.settling.specs.Settling.{moments, ticksOf, befores, divided, dividedTicks, Permitted, LosesNone, Each, Sent}
 use Rattle.election.specs.History.{accepted}
 use Rattle.election.specs.Tick.{tick, ticks}
@@ -42,9 +42,9 @@ Says K x = (p : ℕ) → In (K .n) p → station x p .up ≡ K .steady p
 
 -- a tick is divided if some steady head doesn't trust L
 split-divided : (K : Stretch) (x : System) → x .n ≡ K .n → Says K x → cond (divided (K .L) x) 1 0 ≡ split K x
-unfolding agreed
+unfolding allTrust
 split-divided K x e says =
-    let same : agreed (x .n) (x .stations) (K .L) ≡ allTo (K .n) (agrees K x) =
+    let same : allTrust (x .n) (x .stations) (K .L) ≡ allTo (K .n) (agrees K x) =
     ap (λ m. allTo m (λ k. trusts (K .L) (getD (x .stations) k noStation))) e
     ∙ all-same (K .n) _ (agrees K x) (λ k l. ap (trusts (K .L)) (sym (seat-of x k)) ∙ ap (λ b. cond b (eqb (station x (k + 1) .leader) (K .L)) true) (says (k + 1) (seat-in (K .n) k l))) in
     rw same (turn (allTo (K .n) (agrees K x)))

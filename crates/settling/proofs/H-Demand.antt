@@ -15,7 +15,7 @@ use Rattle.lists.proofs.Every.{all-append}
 use Rattle.lists.proofs.Test.{all-at}
 use Rattle.station.specs.declared.Station.{Station}
 use Rattle.election.specs.Commands.{Command, SetUp, Start, Crash, Link, Run, Lose, Report, decode}
-use Rattle.election.specs.Listing.{trusts, agreed}
+use Rattle.election.specs.Listing.{trusts, allTrust}
 use Rattle.election.specs.Schedule.{schedule}
 use Rattle.settling.specs.Settling.{moments, ticksOf, befores, divided, dividedTicks, Quiet, upHeads, bound, answered, given, Settling}
 use Rattle.election.specs.History.{accepted, after, commands, reached}
@@ -53,11 +53,11 @@ abbrev Silent : ℕ → System → Type 0
 Silent L x = divided L (tick x) ≡ false → (p : ℕ) → 1 ≤ p → p ≤ x .n → sending x p ≡ true → p ≡ L
 
 silent-tick : (L : ℕ) (x : System) → x .n ≤ 8 → Silent L x
-unfolding agreed
+unfolding allTrust
 silent-tick L x small e p low high t =
     let ip : In (x .n) p = record { low = low; high = high } in
     let (u, sl, l) = sending-of x p t in
-    let all : agreed (tick x .n) (tick x .stations) L ≡ true = not-false (agreed (tick x .n) (tick x .stations) L) e in
+    let all : allTrust (tick x .n) (tick x .stations) L ≡ true = not-false (allTrust (tick x .n) (tick x .stations) L) e in
     let at : trusts L (station (tick x) p) ≡ true = all-at (tick x .n) (p - 1) (λ k. trusts L (getD (tick x .stations) k noStation)) all (omega (arith, tick-n x)) in
     let up : station (tick x) p .up ≡ true = tick-up x small p ip ∙ u in
     let f : eqb (station (tick x) p .leader) L ≡ true = ap (λ b. cond b (eqb (station (tick x) p .leader) L) true) (sym up) ∙ at in

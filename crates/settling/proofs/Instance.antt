@@ -11,7 +11,7 @@ use Rattle.lists.specs.Largest.{maxTo}
 use Rattle.fit.specs.Fit.{alive}
 use Rattle.election.specs.System.{station, sentBy, underway}
 use Rattle.election.specs.Commands.{ruling, refusal}
-use Rattle.election.specs.Listing.{agreed}
+use Rattle.election.specs.Listing.{allTrust}
 use Rattle.election.specs.Rows.{start, at20, startedSlow}
 use Rattle.settling.specs.Settling.{moments, befores, dividedTicks, longestWait, longestTimeout, upHeads, given}
 use Rattle.election.specs.History.{after, history, commands, starts, isUp}
@@ -26,7 +26,7 @@ use Rattle.settling.proofs.Tested.{every, implies, pairs, sentTest, arr
 
 -- every definition that is computed with: what unfolds this name unfolds them
 computing : Unit {0}
-unfolding rules ruled maxTo agreed after history starts isUp moments befores dividedTicks longestWait longestTimeout upHeads given every implies pairs sentTest arrivingTest eachTest permittedTest losesNoneTest firstTest found
+unfolding rules ruled maxTo allTrust after history starts isUp moments befores dividedTicks longestWait longestTimeout upHeads given every implies pairs sentTest arrivingTest eachTest permittedTest losesNoneTest firstTest found
 computing = tt
 
 -- what is found: the conditions, the ticks, how many are divided, the bound

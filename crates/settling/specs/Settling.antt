@@ -11,7 +11,7 @@ use Rattle.lists.specs.Every.{All}
 use Rattle.lists.specs.Largest.{maxTo}
 use Rattle.station.specs.Order.{entry}
 use Rattle.election.specs.Commands.{Command, SetUp, Start, Crash, Link, Run, Lose, Report, decode, command}
-use Rattle.election.specs.Listing.{agreed}
+use Rattle.election.specs.Listing.{allTrust}
 use Rattle.election.specs.History.{accepted, after, commands, starts, isUp, reached}
 use Rattle.election.specs.Schedule.{schedule}
 use Rattle.election.specs.System.{fresh, station, delay, underway}
@@ -48,7 +48,7 @@ befores (e ∷ es) s = cond (accepted s e) (ticksOf (decode e) s) [] ++ befores 
 
 -- at the end of a tick some up head doesn't trust L
 abbrev pub divided : ℕ → System → Bool
-divided L s = not (agreed (s .n) (s .stations) L)
+divided L s = not (allTrust (s .n) (s .stations) L)
 
 -- how many ticks end divided, from the systems before them
 unfoldable pub dividedTicks : ℕ → List System → ℕ

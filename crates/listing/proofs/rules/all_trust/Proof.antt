@@ -9,7 +9,7 @@ use Rattle.lists.proofs.Test.{all-none, all-turn, all-not}
 use Rattle.lists.proofs.Bools.{holds, fails}
 use Rattle.lists.specs.Test.{allTo}
 use Rattle.election.specs.System.{noStation}
-use Rattle.election.specs.Listing.{trusts, agreed}
+use Rattle.election.specs.Listing.{trusts, allTrust}
 use Rattle.listing.proofs.rules.all_trust.Tie as tie
 use Rattle.listing.proofs.rules.all_trust.Statement.{statement}
 
@@ -23,14 +23,14 @@ loop-holds : tie.Need-loop-holds Inv-loop μ-loop
 loop-holds c = (search needs, all-none _)
 
 returns : tie.Need-returns Inv-loop μ-loop
-unfolding agreed
+unfolding allTrust
 returns c = sym (all-not _ _ _ (c .before .before .before .loop-test .taken) (fails (c .before .trusts .ensures) (c .if1 .taken)))
 
 loop-again : tie.Need-loop-again Inv-loop μ-loop
 loop-again c = (search needs, all-turn _ _ (c .before .before .before .before .loop .inv .1) (holds (c .before .trusts .ensures) (c .if1 .left)))
 
 returns-2 : tie.Need-returns-2 Inv-loop μ-loop
-unfolding agreed
+unfolding allTrust
 returns-2 c = let e : (c .before .loop .k) ≡ (c .before .before .args .n) = omega arith in sym (rw e at (c .before .loop .inv .1))
 
 pub all-trust-spec : {M : Type 1} → statement M
