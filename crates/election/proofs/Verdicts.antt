@@ -119,11 +119,11 @@ agreed-dark-exact s l e r = (
   λ given.
       let (x, t, not-up) = verdict-exact (s .n) (s .stations) (AgreedDark l) .0 given in
       let (p, (low, high, u)) = x in
-      let stands : Alive p (s .n) (station s p) = fit-of p (s .n) (s .period) (s .tick) (station s p) (sound-of s e r .fits p (record { low = low; high = high })) u .0 .living in
+      let alive : Alive p (s .n) (station s p) = fit-of p (s .n) (s .period) (s .tick) (station s p) (sound-of s e r .fits p (record { low = low; high = high })) u .0 .living in
       let same : trusted (s .stations) p ≡ l = t p (low, high, u) in
-      let first : 1 ≤ l = subst (λ z. 1 ≤ z) same (stands .leader-low) in
-      let last : l ≤ s .n = subst (λ z. z ≤ s .n) same (stands .leader-high) in
-      (x, t, (first, last, false-unless (station s l .up) (λ up. not-up (first, last, up)))),
+      let from-one : 1 ≤ l = subst (λ z. 1 ≤ z) same (alive .leader-low) in
+      let to-n : l ≤ s .n = subst (λ z. z ≤ s .n) same (alive .leader-high) in
+      (x, t, (from-one, to-n, false-unless (station s l .up) (λ up. not-up (from-one, to-n, up)))),
   λ words.
       let (x, t, (low, high, down)) = words in
       verdict-exact (s .n) (s .stations) (AgreedDark l) .1 (x, t, λ up. true≢false (sym (up .2) ∙ down)),

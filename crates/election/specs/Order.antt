@@ -11,7 +11,7 @@ use Rattle.lists.specs.Fold.{each}
 use Rattle.station.specs.declared.Station.{Station}
 use Rattle.election.specs.Heads.{hearing, expiring, slotting, announces}
 use Rattle.election.specs.Sound.{sound}
-use Rattle.election.specs.System.{noStation, noLink, stationOf, place, from, to, delay, messages, holding, underway, isLink}
+use Rattle.election.specs.System.{noLink, stationOf, place, from, to, delay, messages, holding, underway, isLink}
 use Rattle.election.specs.Tick.{next, tick}
 use Rattle.election.specs.declared.Link.{Link}
 use Rattle.election.specs.declared.Message.{Message}
