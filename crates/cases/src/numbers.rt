@@ -73,6 +73,15 @@ pub fn counts(xs: [u64; 64], at: usize) -> [u16; 8] {
     v
 }
 
+// Eight ranks, of the numbers from place 48 on.
+pub fn ranks(xs: [u64; 64]) -> [u8; 8] {
+    let mut r = [0u8; 8];
+    for k in 0..8 {
+        r[k] = byte(xs[k + 48]);
+    }
+    r
+}
+
 // Eight timeouts, of the numbers from place 16 on.
 fn timeouts(xs: [u64; 64]) -> [u32; 8] {
     let mut t = [0u32; 8];

@@ -13,7 +13,8 @@ pub struct Row {
     pub operation: u8,
     // the letter of the change, 0 for none
     pub change: u8,
-    // a station's from place 0 on (see numbers), those after a letter from 32 on, those after = from 40 on; at 62 how often bytes repeat
+    // a station's from place 0 on (see numbers), those after a letter from 32 on, those after = from 40 on, those after % from 48 on;
+    // at 62 how often bytes repeat
     pub numbers: [u64; 64],
     // the place of what is read
     pub at: usize,

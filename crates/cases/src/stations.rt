@@ -5,6 +5,7 @@ use crate::line::Line;
 use crate::numbers::byte;
 use crate::numbers::counts;
 use crate::numbers::of_station;
+use crate::numbers::ranks;
 use crate::numbers::same;
 use crate::numbers::station_of;
 use crate::numbers::tick;
@@ -42,7 +43,8 @@ fn fields(line: Line, s: Station) -> Line {
         )
 }
 
-// What an operation makes of a station, at the numbers from place 32 on: me, n, the period, the tick, the sender; from 40 on the counts.
+// What an operation makes of a station, at the numbers from place 32 on: me, n, the period, the tick, the sender; from 40 on the counts, from
+// 48 on the ranks.
 fn outcome(operation: u8, xs: [u64; 64], s: Station) -> Outcome {
     let me = byte(xs[32]);
     let n = byte(xs[33]);
@@ -51,9 +53,9 @@ fn outcome(operation: u8, xs: [u64; 64], s: Station) -> Outcome {
     match operation {
         b'S' => start(me, n, period, t, s),
         b'C' => crash(me, n, period, t, s),
-        b'H' => hear(me, n, period, t, byte(xs[36]), counts(xs, 40), s),
+        b'H' => hear(ranks(xs), me, n, period, t, byte(xs[36]), counts(xs, 40), s),
         b'E' => expire(me, n, period, t, s),
-        _ => slot(me, n, period, t, s),
+        _ => slot(ranks(xs), me, n, period, t, s),
     }
 }
 

@@ -43,7 +43,10 @@ fn same_stations(a: System, b: System) -> bool {
 
 // Whether two systems are equal.
 pub fn same_system(a: System, b: System) -> bool {
-    same(of_system(a), of_system(b)) & same_stations(a, b) & same_links(a, b)
+    same(of_system(a), of_system(b))
+        & same(of_ranks(a), of_ranks(b))
+        & same_stations(a, b)
+        & same_links(a, b)
 }
 
 // How many messages are under way.
@@ -68,7 +71,16 @@ fn of_stations(s: System) -> [u64; 64] {
     xs
 }
 
-// What shows of a system, as numbers.
+// The ranks, from place 0 on.
+fn of_ranks(s: System) -> [u64; 64] {
+    let mut xs = [0u64; 64];
+    for k in 0..8 {
+        xs[k] = s.ranks[k] as u64;
+    }
+    xs
+}
+
+// What shows of a system but for its ranks, as numbers.
 fn of_system(s: System) -> [u64; 64] {
     let mut xs = of_stations(s);
     xs[0] = flag(s.ready);
@@ -81,8 +93,13 @@ fn of_system(s: System) -> [u64; 64] {
 
 // The line and what shows of a system.
 pub fn system(line: Line, s: System) -> Line {
-    line.either(s.ready, b", set up", b", not set up").filled(
-        b", n \x01, period \x02, tick \x03, up \x18\x19\x1a\x1b\x1c\x1d\x1e\x1f, counts \x08,\x09,\x0a,\x0b,\x0c,\x0d,\x0e,\x0f, sent \x10,\x11,\x12,\x13,\x14,\x15,\x16,\x17, under way \x04",
-        of_system(s),
-    )
+    line.either(s.ready, b", set up", b", not set up")
+        .filled(
+            b", n \x01, period \x02, tick \x03, up \x18\x19\x1a\x1b\x1c\x1d\x1e\x1f, counts \x08,\x09,\x0a,\x0b,\x0c,\x0d,\x0e,\x0f, sent \x10,\x11,\x12,\x13,\x14,\x15,\x16,\x17, under way \x04",
+            of_system(s),
+        )
+        .filled(
+            b", ranks \x00,\x01,\x02,\x03,\x04,\x05,\x06,\x07",
+            of_ranks(s),
+        )
 }

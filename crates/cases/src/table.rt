@@ -1,8 +1,9 @@
 // A table of cases, read byte by byte. A case is a line: the operation's letter, what it is handed, a colon and the case's name.
 //   W n sender many = counts < buffer    writes a frame, of as many of the counts, into the buffer
 //   R n < frame                          reads a frame
-//   S me n period tick | station         starts a station; C crashes it, E ends its timer, L gives it its send chance
-//   H me n period tick sender = counts | station    has it hear LEADER
+//   S me n period tick | station         starts a station; C crashes it, E ends its timer
+//   L me n period tick % ranks | station            gives it its send chance
+//   H me n period tick sender = counts % ranks | station    has it hear LEADER
 //   P < schedule                         runs a schedule
 //   D < schedule > command               hands a command to the system that the schedule leaves
 //   J < schedule > command               the same, and says whether that system is sound
@@ -10,7 +11,7 @@
 // Numbers are decimal, and 0 where they are left out. A station is its starts, kept leader, up, leader, timer, slot and wait, then
 // / and the counts that it knows, + and its timeouts. Bytes are in hex: *7(09 0a) is 09 0a seven times, and " in place of < and a
 // schedule is the schedule of the line before. A letter behind the bytes changes a number of the system to x before the operation:
-//   N f = x        the system's own: f is 0 set up, 1 n, 2 period, 3 tick, 15 + p the sent count of station p
+//   N f = x        the system's own: f is 0 set up, 1 n, 2 period, 3 tick, 15 + p the sent count of station p, 23 + p its rank
 //   S p f = x      station p's: f is 0 starts .. 6 wait, 7 + q the count of station q, 15 + q the timeout for q
 //   Z p q = x      the delay from p to q
 //   U p q = x      how many messages are under way from p to q
@@ -116,6 +117,7 @@ fn place(at: usize, b: u8) -> usize {
         b' ' => next(at),
         b'A'..=b'Z' => 31,
         b'=' => 39,
+        b'%' => 47,
         b'|' => 63,
         b'/' => 7,
         b'+' => 15,

@@ -6,7 +6,7 @@ use Prim.Native.Nat.{ℕ, _≤_}
 use lib.ListN.{getD}
 use lib.Dec.{eqb}
 use Rattle.station.specs.declared.Station.{Station}
-use Rattle.election.specs.Commands.{Command, SetUp, Start, Crash, Link, Run, Lose, Report, numberOf}
+use Rattle.election.specs.Commands.{Command, SetUp, Start, Crash, Link, Run, Lose, Report, Rank, noneStarted, numberOf}
 use Rattle.election.specs.System.{station}
 use Rattle.election.specs.declared.System.{System}
 use Rattle.decision.specs.declared.Decision.{Decision}
@@ -21,16 +21,17 @@ pub data Decided : Type 0 where
 abbrev pub decided : ℕ → Command → Decided
 decided refusal c = cond (eqb refusal 0) (Taken c) (Turned refusal)
 
--- what the code's decision says
-abbrev pub meaning : Decision → Decided
-meaning (code.Refused why) = Turned (numberOf why)
-meaning (code.SetUp n period) = Taken (SetUp n period)
-meaning (code.Start p) = Taken (Start p)
-meaning (code.Crash p) = Taken (Crash p)
-meaning (code.Link p q d) = Taken (Link p q d)
-meaning (code.Run t) = Taken (Run t)
-meaning (code.Lose p q) = Taken (Lose p q)
-meaning code.Report = Taken Report
+-- what the code's decision says of a system: a rank is taken if no station was ever started, which is still to be tested
+abbrev pub meaning : System → Decision → Decided
+meaning s (code.Refused why) = Turned (numberOf why)
+meaning s (code.SetUp n period) = Taken (SetUp n period)
+meaning s (code.Start p) = Taken (Start p)
+meaning s (code.Crash p) = Taken (Crash p)
+meaning s (code.Link p q d) = Taken (Link p q d)
+meaning s (code.Run t) = Taken (Run t)
+meaning s (code.Lose p q) = Taken (Lose p q)
+meaning s code.Report = Taken Report
+meaning s (code.Rank p r) = cond (noneStarted (s .stations)) (Taken (Rank p r)) (Turned 23)
 
 -- the values that a decision needs are those of a system: the station is the one that the first operand names
 pub record Sees (s : System) (ready : Bool) (n tick : ℕ) (x : Station) (bytes : List ℕ) : Type 0 where

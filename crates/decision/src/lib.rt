@@ -6,7 +6,7 @@ ghost use Prim.Native.Nat.{_+_, _*_, _-_, _<_, _≤_};
 ghost use lib.ListN.{getD};
 ghost use Rattle.lists.specs.First.{firstFailed};
 ghost use Rattle.fit.specs.Fit.{within};
-ghost use Rattle.election.specs.Commands.{Command, SetUp, Start, Crash, Link, Run, Lose, Report, decode, ruling, tests};
+ghost use Rattle.election.specs.Commands.{Command, SetUp, Start, Crash, Link, Run, Lose, Report, Rank, decode, noneStarted, ruling, tests};
 ghost use Rattle.election.specs.Sound.{sound};
 ghost use Rattle.election.specs.System.{station};
 ghost use Rattle.election.specs.declared.System.{System};
@@ -31,6 +31,8 @@ pub enum Decision {
     Run(u32),
     Lose { from: u8, to: u8 },
     Report,
+    // .. if no station was ever started, which is left to the owner of the stations to test
+    Rank { station: u8, rank: u8 },
 }
 
 // Whether a number is one of the stations 1 to n.
@@ -52,7 +54,7 @@ fn are_stations(n: u8, p: u8, q: u8) -> bool
 
 // Set up, with operands in range.
 fn set_up(ready: bool, n: u8, period: u8) -> Decision
-    ensures { λ r. ⌜ ((s : System) → s .ready ≡ ready → meaning r ≡ decided (firstFailed (tests s (SetUp n period))) (SetUp n period)) ⌝ }
+    ensures { λ r. ⌜ ((s : System) → s .ready ≡ ready → meaning s r ≡ decided (firstFailed (tests s (SetUp n period))) (SetUp n period)) ⌝ }
 {
     if ready {
         return Decision::Refused(Refusal::SetUpTwice);
@@ -68,7 +70,7 @@ fn set_up(ready: bool, n: u8, period: u8) -> Decision
 
 // A station starts, if it is down and not worn out.
 fn start(ready: bool, n: u8, x: Station, p: u8) -> Decision
-    ensures { λ r. ⌜ ((s : System) → s .ready ≡ ready → s .n ≡ n → (ready ≡ true → p ≤ n → station s p ≡ x) → meaning r ≡ decided (firstFailed (tests s (Start p))) (Start p)) ⌝ }
+    ensures { λ r. ⌜ ((s : System) → s .ready ≡ ready → s .n ≡ n → (ready ≡ true → p ≤ n → station s p ≡ x) → meaning s r ≡ decided (firstFailed (tests s (Start p))) (Start p)) ⌝ }
 {
     if !ready {
         return Decision::Refused(Refusal::NotSetUp);
@@ -87,7 +89,7 @@ fn start(ready: bool, n: u8, x: Station, p: u8) -> Decision
 
 // A station crashes, if it is up.
 fn crash(ready: bool, n: u8, x: Station, p: u8) -> Decision
-    ensures { λ r. ⌜ ((s : System) → s .ready ≡ ready → s .n ≡ n → (ready ≡ true → p ≤ n → station s p ≡ x) → meaning r ≡ decided (firstFailed (tests s (Crash p))) (Crash p)) ⌝ }
+    ensures { λ r. ⌜ ((s : System) → s .ready ≡ ready → s .n ≡ n → (ready ≡ true → p ≤ n → station s p ≡ x) → meaning s r ≡ decided (firstFailed (tests s (Crash p))) (Crash p)) ⌝ }
 {
     if !ready {
         return Decision::Refused(Refusal::NotSetUp);
@@ -103,7 +105,7 @@ fn crash(ready: bool, n: u8, x: Station, p: u8) -> Decision
 
 // A command about a link, handed over as it is to be taken: turned down as lose is, or taken.
 fn between(ready: bool, n: u8, from: u8, to: u8, taken: Decision) -> Decision
-    ensures { λ r. ⌜ ((s : System) (c : Command) → s .ready ≡ ready → s .n ≡ n → meaning taken ≡ Taken c → meaning r ≡ decided (firstFailed (tests s (Lose from to))) c) ⌝ }
+    ensures { λ r. ⌜ ((s : System) (c : Command) → s .ready ≡ ready → s .n ≡ n → meaning s taken ≡ Taken c → meaning s r ≡ decided (firstFailed (tests s (Lose from to))) c) ⌝ }
 {
     if !ready {
         return Decision::Refused(Refusal::NotSetUp);
@@ -119,7 +121,7 @@ fn between(ready: bool, n: u8, from: u8, to: u8, taken: Decision) -> Decision
 
 // A link gets a delay; every byte is one.
 fn link(ready: bool, n: u8, from: u8, to: u8, delay: u8) -> Decision
-    ensures { λ r. ⌜ ((s : System) → s .ready ≡ ready → s .n ≡ n → meaning r ≡ decided (firstFailed (tests s (Link from to delay))) (Link from to delay)) ⌝ }
+    ensures { λ r. ⌜ ((s : System) → s .ready ≡ ready → s .n ≡ n → meaning s r ≡ decided (firstFailed (tests s (Link from to delay))) (Link from to delay)) ⌝ }
 {
     between(ready, n, from, to, Decision::Link { from, to, delay })
 }
@@ -133,7 +135,7 @@ fn sum(tick: u32, t: u32) -> u64
 
 // A run of at least one tick, not past the last.
 fn run(ready: bool, tick: u32, t: u32) -> Decision
-    ensures { λ r. ⌜ ((s : System) → s .ready ≡ ready → s .tick ≡ tick → meaning r ≡ decided (firstFailed (tests s (Run t))) (Run t)) ⌝ }
+    ensures { λ r. ⌜ ((s : System) → s .ready ≡ ready → s .tick ≡ tick → meaning s r ≡ decided (firstFailed (tests s (Run t))) (Run t)) ⌝ }
 {
     if !ready {
         return Decision::Refused(Refusal::NotSetUp);
@@ -149,19 +151,48 @@ fn run(ready: bool, tick: u32, t: u32) -> Decision
 
 // The messages under way on a link vanish.
 fn lose(ready: bool, n: u8, from: u8, to: u8) -> Decision
-    ensures { λ r. ⌜ ((s : System) → s .ready ≡ ready → s .n ≡ n → meaning r ≡ decided (firstFailed (tests s (Lose from to))) (Lose from to)) ⌝ }
+    ensures { λ r. ⌜ ((s : System) → s .ready ≡ ready → s .n ≡ n → meaning s r ≡ decided (firstFailed (tests s (Lose from to))) (Lose from to)) ⌝ }
 {
     between(ready, n, from, to, Decision::Lose { from, to })
 }
 
 // A report, once the system is set up.
 fn report(ready: bool) -> Decision
-    ensures { λ r. ⌜ ((s : System) → s .ready ≡ ready → meaning r ≡ decided (firstFailed (tests s Report)) Report) ⌝ }
+    ensures { λ r. ⌜ ((s : System) → s .ready ≡ ready → meaning s r ≡ decided (firstFailed (tests s Report)) Report) ⌝ }
 {
     if !ready {
         return Decision::Refused(Refusal::NotSetUp);
     }
     Decision::Report
+}
+
+// A station gets a rank, if no station was ever started.
+fn rank(ready: bool, n: u8, station: u8, rank: u8) -> Decision
+    ensures { λ r. ⌜ ((s : System) → s .ready ≡ ready → s .n ≡ n → meaning s r ≡ decided (firstFailed (tests s (Rank station rank))) (Rank station rank)) ⌝ }
+{
+    if !ready {
+        return Decision::Refused(Refusal::NotSetUp);
+    }
+    if !is_station(n, station) {
+        return Decision::Refused(Refusal::StationRange);
+    }
+    match rank {
+        0..=7 => Decision::Rank { station, rank },
+        _ => Decision::Refused(Refusal::RankRange),
+    }
+}
+
+// Whether no station was ever started.
+pub fn none_started(stations: [Station; 8]) -> bool
+    ensures { λ r. ⌜ r ≡ noneStarted stations ⌝ }
+{
+    for k in 0..8 {
+        let x = stations[k];
+        if x.incarnation != 0 {
+            return false;
+        }
+    }
+    true
 }
 
 // The number of two bytes, low byte first.
@@ -186,7 +217,7 @@ pub fn named(bytes: &[u8]) -> usize
 
 // Decides on the first command of the bytes, for a sound system of which the values are, and the station that the command names.
 pub fn decide(ready: bool, n: u8, tick: u32, x: Station, bytes: &[u8]) -> Decision
-    ensures { λ r. ⌜ ((s : System) → sound s ≡ true → Sees s ready n tick x (now (bytes .entry)) → meaning r ≡ decided (ruling s (now (bytes .entry))) (decode (now (bytes .entry)))) ⌝ }
+    ensures { λ r. ⌜ ((s : System) → sound s ≡ true → Sees s ready n tick x (now (bytes .entry)) → meaning s r ≡ decided (ruling s (now (bytes .entry))) (decode (now (bytes .entry)))) ⌝ }
 {
     if bytes.len() == 0 {
         return Decision::Refused(Refusal::MissingOperand);
@@ -203,6 +234,7 @@ pub fn decide(ready: bool, n: u8, tick: u32, x: Station, bytes: &[u8]) -> Decisi
         5 => run(ready, tick, word(bytes[1], bytes[2])),
         6 => lose(ready, n, bytes[1], bytes[2]),
         7 => report(ready),
+        8 => rank(ready, n, bytes[1], bytes[2]),
         _ => Decision::Refused(Refusal::UnknownCommand),
     }
 }

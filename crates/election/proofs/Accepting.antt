@@ -11,9 +11,9 @@ use Rattle.lists.specs.First.{firstFailed}
 use Rattle.lists.proofs.Bools.{both}
 use Rattle.lists.proofs.First.{passed}
 use Rattle.fit.specs.Fit.{within, longestDelay}
-use Rattle.station.specs.Limits.{lastTick, mostStarts}
+use Rattle.station.specs.Limits.{lastTick, mostStarts, mostRank}
 use Rattle.fit.proofs.Tests.{within-of}
-use Rattle.election.specs.Commands.{Command, SetUp, Start, Crash, Link, Run, Lose, Report, decode, operands, tests, ruling}
+use Rattle.election.specs.Commands.{Command, SetUp, Start, Crash, Link, Run, Lose, Report, Rank, decode, operands, lastCommand, noneStarted, tests, ruling}
 use Rattle.election.specs.System.{station}
 use Rattle.election.specs.declared.System.{System}
 use Rattle.election.proofs.Places.{In}
@@ -26,6 +26,7 @@ Accepts (Link p q d) s = (s .ready ≡ true) × In (s .n) p × In (s .n) q × (p
 Accepts (Run t) s = (s .ready ≡ true) × (0 < t) × (s .tick + t ≤ 1000000)
 Accepts (Lose p q) s = (s .ready ≡ true) × In (s .n) p × In (s .n) q × (p ≢ q)
 Accepts Report s = s .ready ≡ true
+Accepts (Rank p r) s = (s .ready ≡ true) × In (s .n) p × (r ≤ mostRank) × (noneStarted (s .stations) ≡ true)
 
 in-of : (n p : ℕ) → within 1 p n ≡ true → In n p
 in-of n p e = let (low, high) = within-of 1 p n e in record { low = low; high = high }
@@ -69,11 +70,17 @@ accepts (Lose p q) s t =
     let (a, b) = both (within 1 p (s .n)) (within 1 q (s .n)) i in
     (r, in-of (s .n) p a, in-of (s .n) q b, eqb-false p q (not-true (eqb p q) o))
 accepts Report s t = let (r, t₁) = passed (s .ready) _ 2 t in r
+accepts (Rank p x) s t =
+    let (r, t₁) = passed (s .ready) _ 2 t in
+    let (i, t₂) = passed (within 1 p (s .n)) _ 6 t₁ in
+    let (h, t₃) = passed (leb x mostRank) _ 21 t₂ in
+    let (none, t₄) = passed (noneStarted (s .stations)) _ 22 t₃ in
+    (r, in-of (s .n) p i, leb-true x mostRank h, none)
 
 -- so did those before them
 pub ruling-tests : (s : System) (bytes : List ℕ) → ruling s bytes ≡ 0 → firstFailed (tests s (decode bytes)) ≡ 0
 ruling-tests s bytes t =
     let (l, t₁) = passed (ltb 0 (length bytes)) _ 1 t in
-    let (b, t₂) = passed (within 1 (getD bytes 0 0) 7) _ 0 t₁ in
+    let (b, t₂) = passed (within 1 (getD bytes 0 0) lastCommand) _ 0 t₁ in
     let (o, t₃) = passed (ltb (operands (decode bytes)) (length bytes)) _ 1 t₂ in
     t₃

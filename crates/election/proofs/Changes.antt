@@ -1,21 +1,24 @@
--- A start, a crash, another delay and the loss of messages leave a sound system.
+-- A start, a crash, another delay, the loss of messages and another rank leave a sound system.
 use mathlib.Core.Path.{_≡_, sym, ap, subst, _∙_}
 use mathlib.Core.Logic.{_≢_}
 use mathlib.Core.List.{[]}
-use mathlib.Core.Bool.{true, false, true≢false}
+use mathlib.Core.Bool.{true, false, cond, true≢false}
 use Prim.Native.Nat.{ℕ, _+_, _-_, _<_, _≤_}
 use native.Mathlib.Omega.{arith}
-use lib.ListN.{length, getD}
+use lib.ListN.{length, getD, set}
+use lib.Dec.{ltb}
 use lib.Seq.{getD-set-same, getD-set-other}
+use borrow.Author.Tests.{lt-ltb}
 use Rattle.lists.proofs.Sets.{within-list, set-keeps}
 use Rattle.fit.specs.Fit.{fit, fitStart, longestDelay}
+use Rattle.station.specs.Limits.{mostRank}
 use Rattle.station.specs.Rules.{started, crashed}
 use Rattle.station.specs.declared.Station.{Station}
 use Rattle.fit.proofs.Between.{of-start, of-crash}
 use Rattle.station.proofs.Fields.{started-slot, crashed-up}
 use Rattle.fit.proofs.Keeps.{start-keeps, crash-keeps}
-use Rattle.fit.proofs.Tests.{fit-ranges}
-use Rattle.election.specs.System.{withStation, withDelay, withoutMessages, noStation, noLink, station, place, from, to, isLink, holding}
+use Rattle.fit.proofs.Tests.{ranks-of, of-ranks, fit-ranges}
+use Rattle.election.specs.System.{withStation, withDelay, withoutMessages, withRank, noStation, noLink, station, place, from, to, isLink, holding}
 use Rattle.election.specs.declared.Link.{Link}
 use Rattle.election.specs.declared.System.{System}
 use Rattle.election.proofs.InitialSound.{empty-linked}
@@ -56,6 +59,7 @@ module _ (s : System) (f : Sound s) (p : ℕ) (h : In (s .n) p) where
             set-keeps (λ y. Linked (s .n) (s .period) (s .tick) y l) (s .stations) (p - 1) (a - 1) x noStation
             (λ e. resent (s .n) (s .period) (s .tick) (station s a) x l slot (f .linked a b ha hb ne)) (f .linked a b ha hb ne));
         no-link = f .no-link;
+        ranked = f .ranked;
       }
 
   can-start : fitStart p (s .n) (s .period) (s .tick) (station s p) ≡ true
@@ -96,6 +100,7 @@ module _ (s : System) (f : Sound s) (p q : ℕ) (hp : In (s .n) p) (hq : In (s .
         short = λ a b ha hb other. set-keeps (λ y. y ≤ longestDelay) (s .delays) (place p q) (place a b) d 0 (λ e. h) (f .short a b ha hb other);
         linked = f .linked;
         no-link = λ k l e. rw (getD-set-other (s .delays) (place p q) k d 0 (not-there k e)) (f .no-link k l e);
+        ranked = f .ranked;
       }
 
   pub lose-sound : Sound (withoutMessages p q s)
@@ -114,7 +119,29 @@ module _ (s : System) (f : Sound s) (p q : ℕ) (hp : In (s .n) p) (hq : In (s .
             set-keeps (λ y. Linked (s .n) (s .period) (s .tick) (station s a) y) (s .links) (place p q) (place a b) (holding []) noLink
             (λ e. empty-linked (s .n) (s .period) (s .tick) (station s a)) (f .linked a b ha hb other);
         no-link = λ k l e. rw (getD-set-other (s .links) (place p q) k (holding []) noLink (not-there k e)) (f .no-link k l e);
+        ranked = f .ranked;
       }
+
+-- another rank of station p
+pub rank-sound : (s : System) → Sound s → (p r : ℕ) → In (s .n) p → r ≤ mostRank → Sound (withRank p r s)
+rank-sound s f p r h few =
+    record {
+      n-low = f .n-low;
+      n-high = f .n-high;
+      period-low = f .period-low;
+      period-high = f .period-high;
+      tick-high = f .tick-high;
+      fits = f .fits;
+      few = f .few;
+      no-station = f .no-station;
+      short = f .short;
+      linked = f .linked;
+      no-link = f .no-link;
+      ranked = of-ranks (s .n) (set (s .ranks) (p - 1) r)
+          (λ k l.
+          set-keeps (λ x. x ≤ cond (ltb k (s .n)) mostRank 0) (s .ranks) (p - 1) k r 0
+          (λ e. rw (lt-ltb k (s .n) (omega (arith, h .low, h .high))) few) (ranks-of (s .n) (s .ranks) (f .ranked) k l));
+    }
 
 -- a station of the system stands in its list
 pub in-stations : (s : System) → Sound s → (p : ℕ) → In (s .n) p → p - 1 < length (s .stations)

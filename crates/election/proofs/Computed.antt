@@ -1,8 +1,9 @@
--- The tables of specs/Rehearsals.antt and specs/Errors.antt, computed by the rules.
+-- The tables of specs/Rehearsals.antt, specs/Ranked.antt and specs/Errors.antt, computed by the rules.
 use mathlib.Core.Path.{refl}
 use Rattle.lists.specs.Join.{joinTo}
 use Rattle.election.specs.Errors.{errors, prints, DarkTwice, Decimals, FreshWhole, SetUpWhole, EightWhole}
 use Rattle.election.specs.Listing.{digits, countOf, vector, status, leaderOf, vectorOf, stationLine, stationLines, dark, allTrust, aLeader, upAmong, verdict, verdictLine, listingOf, reported, endLine, reports, output}
+use Rattle.election.specs.Ranked.{preferences, changes}
 use Rattle.election.specs.Rehearsals.{rehearsals}
 use Rattle.election.specs.Text.{text}
 use Rattle.election.proofs.Opened.{rules}
@@ -29,3 +30,11 @@ spelled-out = (refl, refl, refl, refl, refl)
 pub rehearsals-ruled : HoldRuled rehearsals
 unfolding printing
 rehearsals-ruled = ((refl, refl), ((refl, refl), ((refl, refl), ((refl, refl), ((refl, refl), ((refl, refl), ((refl, refl), ((refl, refl), ((refl, refl), ((refl, refl), tt))))))))))
+
+pub preferences-ruled : HoldRuled preferences
+unfolding printing
+preferences-ruled = ((refl, refl), ((refl, refl), ((refl, refl), ((refl, refl), ((refl, refl), ((refl, refl), tt))))))
+
+pub changes-ruled : HoldRuled changes
+unfolding printing
+changes-ruled = ((refl, refl), ((refl, refl), ((refl, refl), ((refl, refl), ((refl, refl), ((refl, refl), ((refl, refl), ((refl, refl), ((refl, refl), ((refl, refl), ((refl, refl), ((refl, refl), tt))))))))))))

@@ -15,7 +15,7 @@ use Rattle.station.specs.Rules.{started, crashed}
 use Rattle.station.specs.declared.Station.{Station}
 use Rattle.station.proofs.Fields.{started-count, started-up, crashed-count, crashed-up}
 use Rattle.election.specs.Claims.{CountsStarts, UpIsLatest, CountsNeverFall}
-use Rattle.election.specs.Commands.{Command, SetUp, Start, Crash, Link, Run, Lose, Report, decode, tests, refusal, perform, command}
+use Rattle.election.specs.Commands.{Command, SetUp, Start, Crash, Link, Run, Lose, Report, Rank, decode, tests, refusal, perform, command}
 use Rattle.election.specs.System.{withStation, station, fresh, initial}
 use Rattle.election.specs.History.{commands, starts, isUp, reached}
 use Rattle.election.specs.Schedule.{schedule}
@@ -45,6 +45,7 @@ countAfter (Link p q d) x k = k
 countAfter (Run t) x k = k
 countAfter (Lose p q) x k = k
 countAfter Report x k = k
+countAfter (Rank p r) x k = k
 
 abbrev upAfter : Command → ℕ → Bool → Bool
 upAfter (SetUp n period) x u = u
@@ -54,6 +55,7 @@ upAfter (Link p q d) x u = u
 upAfter (Run t) x u = u
 upAfter (Lose p q) x u = u
 upAfter Report x u = u
+upAfter (Rank p r) x u = u
 
 starts-more : (x : ℕ) (c : Command) (cs : List Command) (k : ℕ) → countAfter c x k + starts x cs ≡ k + starts x (c ∷ cs)
 unfolding starts
@@ -68,6 +70,7 @@ starts-more x (Link p q d) cs k = refl
 starts-more x (Run t) cs k = refl
 starts-more x (Lose p q) cs k = refl
 starts-more x Report cs k = refl
+starts-more x (Rank p r) cs k = refl
 
 up-more : (x : ℕ) (c : Command) (cs : List Command) (u : Bool) → isUp (upAfter c x u) x cs ≡ isUp u x (c ∷ cs)
 unfolding isUp
@@ -78,6 +81,7 @@ up-more x (Link p q d) cs u = refl
 up-more x (Run t) cs u = refl
 up-more x (Lose p q) cs u = refl
 up-more x Report cs u = refl
+up-more x (Rank p r) cs u = refl
 
 -- what one command does to station x, and to the number of stations
 pub record Step (c : Command) (x : ℕ) (s r : System) : Type 0 where
@@ -129,6 +133,7 @@ one-step (Link p q d) s r h a x ix = record { count = refl; up = refl }
 one-step (Run t) s r h a x ix = ticks-step t s (h .n-high) x ix
 one-step (Lose p q) s r h a x ix = record { count = refl; up = refl }
 one-step Report s r h a x ix = record { count = refl; up = refl }
+one-step (Rank p y) s r h a x ix = record { count = refl; up = refl }
 
 -- a system that is set up stays so, with its stations
 pub ready-after : (c : Command) (s : System) → s .ready ≡ true → Accepts c s → perform c s .ready ≡ true
@@ -140,6 +145,7 @@ ready-after (Link p q d) s r a = r
 ready-after (Run t) s r a = ticks-ready t s ∙ r
 ready-after (Lose p q) s r a = r
 ready-after Report s r a = r
+ready-after (Rank p x) s r a = r
 
 pub n-after : (c : Command) (s : System) → s .ready ≡ true → Accepts c s → perform c s .n ≡ s .n
 unfolding perform
@@ -150,6 +156,7 @@ n-after (Link p q d) s r a = refl
 n-after (Run t) s r a = ticks-n t s
 n-after (Lose p q) s r a = refl
 n-after Report s r a = refl
+n-after (Rank p x) s r a = refl
 
 -- along a list of commands
 pub record Tied (cs : List Command) (s r : System) : Type 0 where
@@ -218,6 +225,7 @@ first-command (Link p q d) cs t (r, i, j, k, l) ok = absurd (unready r)
 first-command (Run n) cs t (r, i, d) ok = absurd (unready r)
 first-command (Lose p q) cs t (r, i, j, k) ok = absurd (unready r)
 first-command Report cs t r ok = absurd (unready r)
+first-command (Rank p x) cs t (r, i, d, k) ok = absurd (unready r)
 
 pub from-fresh : (cs : List Command) → Allowed cs fresh → FromFresh cs (reached cs fresh)
 unfolding reached
@@ -245,6 +253,7 @@ count-rises (Link p q d) x k = le-refl k
 count-rises (Run t) x k = le-refl k
 count-rises (Lose p q) x k = le-refl k
 count-rises Report x k = le-refl k
+count-rises (Rank p r) x k = le-refl k
 
 pub counts-never-fall : CountsNeverFall
 unfolding command

@@ -11,7 +11,7 @@ use borrow.Author.Tests.{eq-eqb, ne-eqb}
 use Rattle.lists.specs.Every.{All}
 use Rattle.lists.proofs.First.{first-is}
 use Rattle.fit.specs.Fit.{within}
-use Rattle.election.specs.Commands.{decode, operands, tests, ruling, command}
+use Rattle.election.specs.Commands.{decode, operands, lastCommand, tests, ruling, command}
 use Rattle.election.specs.Listing.{reported, reports}
 use Rattle.election.specs.Schedule.{End, follow}
 use Rattle.election.specs.declared.System.{System}
@@ -31,7 +31,7 @@ module _ (fuel : ℕ) (s : System) (at b : ℕ) (bytes : List ℕ) where
 -- what holds of 0, of 1 and 2, and of the numbers of a command's tests where they fail, holds of what the rules give
 pub ruling-is : (P : ℕ → Type 0) → P 0 → P 1 → P 2 → (s : System) (bytes : List ℕ) → All (λ t. t .0 ≡ false → P (t .1)) (tests s (decode bytes)) → P (ruling s bytes)
 ruling-is P none one two s bytes h =
-    first-is P none ((ltb 0 (length bytes), 2) ∷ (within 1 (getD bytes 0 0) 7, 1) ∷ (ltb (operands (decode bytes)) (length bytes), 2) ∷ tests s (decode bytes)) ((λ e. two), ((λ e. one), ((λ e. two), h)))
+    first-is P none ((ltb 0 (length bytes), 2) ∷ (within 1 (getD bytes 0 0) lastCommand, 1) ∷ (ltb (operands (decode bytes)) (length bytes), 2) ∷ tests s (decode bytes)) ((λ e. two), ((λ e. one), ((λ e. two), h)))
 
 -- what holds of 0, and of the refusal of every command whose system and bytes meet a condition that accepted commands keep, holds of a
 -- schedule's refusal

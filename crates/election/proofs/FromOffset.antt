@@ -11,7 +11,7 @@ use lib.Seq.{drop-drop}
 use borrow.Author.Tests.{ltb-true, eq-eqb}
 use Rattle.lists.proofs.First.{passed}
 use Rattle.fit.specs.Fit.{within}
-use Rattle.election.specs.Commands.{decode, operands, ruling, refusal, command}
+use Rattle.election.specs.Commands.{decode, operands, lastCommand, ruling, refusal, command}
 use Rattle.election.specs.Sound.{sound}
 use Rattle.election.specs.declared.System.{System}
 
@@ -21,7 +21,7 @@ unfolding command refusal
 command-size s bytes t =
     let (e, t₀) = passed (sound s) (ruling s bytes) 14 t in
     let (l, t₁) = passed (ltb 0 (length bytes)) _ 1 t₀ in
-    let (b, t₂) = passed (within 1 (getD bytes 0 0) 7) _ 0 t₁ in
+    let (b, t₂) = passed (within 1 (getD bytes 0 0) lastCommand) _ 0 t₁ in
     let (o, t₃) = passed (ltb (operands (decode bytes)) (length bytes)) _ 1 t₂ in
     rw (eq-eqb (refusal s bytes) 0 t) (omega arith, omega (arith, ltb-true (operands (decode bytes)) (length bytes) o))
 

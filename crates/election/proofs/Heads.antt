@@ -13,10 +13,10 @@ use Rattle.election.specs.declared.System.{System}
 module _ (s : System) where
   -- hearing and the end of a timer
   pub hearing-unchanged : (me q : ℕ) (m : Message) (now : ℕ) (x : Station) → Unchanged x (hearing s me q m now x)
-  hearing-unchanged me q m now x = heard-unchanged me q (m .counts) now x
+  hearing-unchanged me q m now x = heard-unchanged (s .ranks) me q (m .counts) now x
 
   pub hearing-timeouts : (me q : ℕ) (m : Message) (now : ℕ) (x : Station) → hearing s me q m now x .timeouts ≡ x .timeouts
-  hearing-timeouts me q m now x = heard-timeouts me q (m .counts) now x
+  hearing-timeouts me q m now x = heard-timeouts (s .ranks) me q (m .counts) now x
 
   pub expiring-unchanged : (me : ℕ) (x : Station) → Unchanged x (expiring s me x)
   expiring-unchanged me x = expired-unchanged me x

@@ -5,7 +5,7 @@ use mathlib.Core.List.{[]}
 use mathlib.Core.Bool.{true, false, cond}
 use Prim.Native.Nat.{ℕ, _+_, _-_, _<_, _≤_}
 use native.Mathlib.Omega.{arith}
-use lib.ListN.{getD, getD-replicate}
+use lib.ListN.{getD, replicate, getD-replicate}
 use lib.Dec.{ltb}
 use borrow.Author.Tests.{lt-ltb, le-ltb}
 use Rattle.lists.proofs.Entries.{getD-upTo}
@@ -13,6 +13,7 @@ use Rattle.lists.proofs.Test.{all-of}
 use Rattle.fit.specs.Fit.{fit, longestDelay}
 use Rattle.station.specs.declared.Station.{Station}
 use Rattle.fit.proofs.Down.{down-cleared, down-fits}
+use Rattle.fit.proofs.Tests.{of-ranks}
 use Rattle.station.proofs.Vectors.{zeros-at}
 use Rattle.election.specs.Claims.{FreshSound}
 use Rattle.election.specs.Sound.{emptyStation, emptyMessage, messageAt, emptyPlace, emptySeat, sound}
@@ -101,4 +102,5 @@ module _ (n period : ℕ) (n-low : 2 ≤ n) (n-high : n ≤ 8) (p-low : 16 ≤ p
         short = initial-short;
         linked = initial-linked;
         no-link = initial-place;
+        ranked = of-ranks n (replicate 8 0) (λ k h. omega (arith, zeros-at k));
       }

@@ -9,13 +9,13 @@ use Rattle.lists.specs.First.{firstFailed}
 use Rattle.lists.proofs.Bools.{cond-elim}
 use Rattle.lists.proofs.First.{passed}
 use Rattle.election.specs.Claims.{KeepsSound, RefusedChangesNothing}
-use Rattle.election.specs.Commands.{Command, SetUp, Start, Crash, Link, Run, Lose, Report, decode, ruling, tests, refusal, perform, command}
+use Rattle.election.specs.Commands.{Command, SetUp, Start, Crash, Link, Run, Lose, Report, Rank, decode, ruling, tests, refusal, perform, command}
 use Rattle.election.specs.Sound.{sound}
 use Rattle.election.specs.System.{initial}
 use Rattle.election.specs.Tick.{ticks}
 use Rattle.election.specs.declared.System.{System}
 use Rattle.election.proofs.Accepting.{Accepts, accepts, ruling-tests}
-use Rattle.election.proofs.Changes.{start-sound, crash-sound, delay-sound, lose-sound}
+use Rattle.election.proofs.Changes.{start-sound, crash-sound, delay-sound, lose-sound, rank-sound}
 use Rattle.election.proofs.InitialSound.{initial-sound, initial-ready}
 use Rattle.election.proofs.Soundness.{sound-of, of-sound}
 use Rattle.election.proofs.TickSound.{ticks-sound, ticks-ready}
@@ -30,6 +30,7 @@ keeps (Link p q d) s e (r, i, j, ne, short) = of-sound _ (delay-sound s (sound-o
 keeps (Run t) s e (r, l, room) = of-sound (ticks t s) (ticks-sound t s room (sound-of s e r)) (ticks-ready t s ∙ r)
 keeps (Lose p q) s e (r, i, j, ne) = of-sound _ (lose-sound s (sound-of s e r) p q i j ne) r
 keeps Report s e r = e
+keeps (Rank p x) s e (r, i, few, none) = of-sound _ (rank-sound s (sound-of s e r) p x i few) r
 
 pub perform-keeps : (c : Command) (s : System) → sound s ≡ true → firstFailed (tests s c) ≡ 0 → sound (perform c s) ≡ true
 perform-keeps c s e t = keeps c s e (accepts c s t)

@@ -3,6 +3,7 @@
 pub mod Spaced
 pub mod Links
 pub mod Places
+pub mod Ranks
 pub mod Soundness
 pub mod InitialSound
 -- A tick: what the heads do keeps, step by step; it leaves a sound system

@@ -10,7 +10,7 @@ use lib.Dec.{ltb}
 use Rattle.lists.specs.Every.{All}
 use Rattle.lists.proofs.Bools.{cond-elim}
 use Rattle.election.specs.Claims.{NeverUnsound}
-use Rattle.election.specs.Commands.{Command, SetUp, Start, Crash, Link, Run, Lose, Report, decode, tests, refusal, command}
+use Rattle.election.specs.Commands.{Command, SetUp, Start, Crash, Link, Run, Lose, Report, Rank, decode, tests, refusal, command}
 use Rattle.election.specs.Schedule.{End, mostBytes, schedule}
 use Rattle.election.specs.Sound.{sound}
 use Rattle.election.specs.System.{fresh}
@@ -28,6 +28,7 @@ tests-other s (Link p q d) = omega arith
 tests-other s (Run t) = omega arith
 tests-other s (Lose p q) = omega arith
 tests-other s Report = omega arith
+tests-other s (Rank p r) = omega arith
 
 -- a sound system turns a command down for another reason
 sound-other : (s : System) (bytes : List ℕ) → sound s ≡ true → command s bytes .refusal ≢ 15

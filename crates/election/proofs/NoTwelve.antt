@@ -13,7 +13,7 @@ use Rattle.lists.proofs.Bools.{cond-elim}
 use Rattle.lists.proofs.Every.{all-drop, all-get}
 use Rattle.fit.specs.Fit.{longestDelay}
 use Rattle.election.specs.Claims.{NoTwelve}
-use Rattle.election.specs.Commands.{Command, SetUp, Start, Crash, Link, Run, Lose, Report, Bytes, decode, tests, refusal, command}
+use Rattle.election.specs.Commands.{Command, SetUp, Start, Crash, Link, Run, Lose, Report, Rank, Bytes, decode, tests, refusal, command}
 use Rattle.election.specs.Schedule.{End, mostBytes, schedule}
 use Rattle.election.specs.Sound.{sound}
 use Rattle.election.specs.System.{fresh}
@@ -29,6 +29,7 @@ Short (Link p q d) = d ≤ longestDelay
 Short (Run t) = Unit {0}
 Short (Lose p q) = Unit {0}
 Short Report = Unit {0}
+Short (Rank p r) = Unit {0}
 
 short : (bytes : List ℕ) → Bytes bytes → Short (decode bytes)
 unfolding decode
@@ -40,7 +41,8 @@ short bytes all =
     (λ e. cond-elim Short (eqb b 3) (λ e. tt)
     (λ e. cond-elim Short (eqb b 4) (λ e. omega (arith, byte))
     (λ e. cond-elim Short (eqb b 5) (λ e. tt)
-    (λ e. cond-elim Short (eqb b 6) (λ e. tt) (λ e. tt))))))
+    (λ e. cond-elim Short (eqb b 6) (λ e. tt)
+    (λ e. cond-elim Short (eqb b 8) (λ e. tt) (λ e. tt)))))))
 
 tests-other : (s : System) (c : Command) → Short c → All (λ t. t .0 ≡ false → t .1 ≢ 12) (tests s c)
 tests-other s (SetUp n period) h = omega arith
@@ -50,6 +52,7 @@ tests-other s (Link p q d) h = (λ e. omega arith, (λ e. omega arith, (λ e. om
 tests-other s (Run t) h = omega arith
 tests-other s (Lose p q) h = omega arith
 tests-other s Report h = omega arith
+tests-other s (Rank p r) h = omega arith
 
 command-other : (s : System) (bytes : List ℕ) → Bytes bytes → command s bytes .refusal ≢ 12
 unfolding command refusal

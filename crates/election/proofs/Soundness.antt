@@ -10,9 +10,9 @@ use lib.ListN.{getD, take}
 use lib.Dec.{leb, ltb, eqb}
 use borrow.Author.Tests.{ltb-true, leb-true, eqb-true, eqb-false, lt-ltb, le-ltb, le-leb, eq-eqb, not-true}
 use Rattle.lists.specs.Test.{allTo}
-use Rattle.lists.proofs.Bools.{both, three, five}
+use Rattle.lists.proofs.Bools.{both, three, six}
 use Rattle.lists.proofs.Test.{all-at, all-of}
-use Rattle.fit.specs.Fit.{within, fit, longestDelay}
+use Rattle.fit.specs.Fit.{within, ranksIn, fit, longestDelay}
 use Rattle.station.specs.Limits.{lastTick}
 use Rattle.fit.proofs.Tests.{within-of, of-within}
 use Rattle.election.specs.System.{noStation, noLink, station, place, from, to, delay, sentBy, messages, underway, isLink}
@@ -35,6 +35,7 @@ pub record Sound (s : System) : Type 0 where
   pub short : (p q : ℕ) → In (s .n) p → In (s .n) q → p ≢ q → delay s p q ≤ longestDelay
   pub linked : (p q : ℕ) → In (s .n) p → In (s .n) q → p ≢ q → Linked (s .n) (s .period) (s .tick) (station s p) (getD (s .links) (place p q) noLink)
   pub no-link : (k : ℕ) → k < 64 → isLink (s .n) (from k) (to k) ≡ false → emptyPlace (getD (s .delays) k 0) (getD (s .links) k noLink) ≡ true
+  pub ranked : ranksIn (s .n) (s .ranks) ≡ true
 
 -- which places are links
 module _ (n p q : ℕ) (hp : 1 ≤ p) (hq : 1 ≤ q) where
@@ -69,7 +70,7 @@ module _ (s : System) where
       rw (from-place p q wp wq, to-place p q wp wq, is-link (s .n) p q hp hq ne)
 
   -- a system that is set up: every clause holds
-  pub clauses : s .ready ≡ true → sound s ≡ (within 2 (s .n) 8 && within 16 (s .period) 255 && leb (s .tick) lastTick && allTo 8 (stationIn s) && allTo 64 (placeIn s))
+  pub clauses : s .ready ≡ true → sound s ≡ (within 2 (s .n) 8 && within 16 (s .period) 255 && leb (s .tick) lastTick && allTo 8 (stationIn s) && allTo 64 (placeIn s) && ranksIn (s .n) (s .ranks))
   unfolding sound
   clauses u = rw u
 
@@ -88,7 +89,7 @@ module _ (s : System) where
   pub sound-of : sound s ≡ true → s .ready ≡ true → Sound s
   unfolding stationIn placeIn emptySeat emptyPlace
   sound-of e u =
-      let (n, period, tick, stations, places) = five (within 2 (s .n) 8) (within 16 (s .period) 255) (leb (s .tick) lastTick) (allTo 8 (stationIn s)) (allTo 64 (placeIn s)) (sym (clauses u) ∙ e) in
+      let (n, period, tick, stations, places, ranks) = six (within 2 (s .n) 8) (within 16 (s .period) 255) (leb (s .tick) lastTick) (allTo 8 (stationIn s)) (allTo 64 (placeIn s)) (ranksIn (s .n) (s .ranks)) (sym (clauses u) ∙ e) in
       let (n-low, n-high) = within-of 2 (s .n) 8 n in
       let (p-low, p-high) = within-of 16 (s .period) 255 period in
       record {
@@ -103,13 +104,14 @@ module _ (s : System) where
         short = λ p q hp hq ne. leb-true (delay s p q) longestDelay (link-holds places n-high p q hp hq ne .0);
         linked = λ p q hp hq ne. linked-of (s .n) (s .period) (s .tick) (station s p) (getD (s .links) (place p q) noLink) (link-holds places n-high p q hp hq ne .1);
         no-link = λ k h l. rw l at (all-at 64 k (placeIn s) places h);
+        ranked = ranks;
       }
 
   pub of-sound : Sound s → s .ready ≡ true → sound s ≡ true
   unfolding stationIn placeIn emptySeat emptyPlace
   of-sound f u =
       clauses u
-      ∙ rw (of-within 2 (s .n) 8 (f .n-low) (f .n-high), of-within 16 (s .period) 255 (f .period-low) (f .period-high), le-leb (s .tick) lastTick (f .tick-high), all-of 8 (stationIn s) (λ k h. seat k h (decLt k (s .n))), all-of 64 (placeIn s) (λ k h. at k h (isLink (s .n) (from k) (to k)) refl))
+      ∙ rw (of-within 2 (s .n) 8 (f .n-low) (f .n-high), of-within 16 (s .period) 255 (f .period-low) (f .period-high), le-leb (s .tick) lastTick (f .tick-high), all-of 8 (stationIn s) (λ k h. seat k h (decLt k (s .n))), all-of 64 (placeIn s) (λ k h. at k h (isLink (s .n) (from k) (to k)) refl), f .ranked)
     where
       seat : (k : ℕ) → k < 8 → Dec (k < s .n) → stationIn s k ≡ true
       seat k h (yes i) =

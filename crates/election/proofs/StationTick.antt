@@ -1,6 +1,7 @@
 -- One station through a tick of a sound system: it fits the end of the tick, and what it sends has counts in range.
 use mathlib.Core.Path.{_≡_, refl, sym, ap, _∙_}
 use mathlib.Core.Logic.{_≢_}
+use mathlib.Core.List.{List}
 use mathlib.Core.Bool.{Bool, true, false}
 use Prim.Native.Nat.{ℕ, _+_, _<_, _≤_}
 use native.Mathlib.Omega.{arith}
@@ -23,41 +24,41 @@ use Rattle.election.proofs.Soundness.{Sound, underway-spaced, underway-
 use Rattle.election.proofs.Steps.{expiredNow-elim, slottedNow-elim, settled-up, settled-down, settled-unchanged, sending-of}
 
 -- an up station after (b): the send chance can come if it is due, and otherwise the station fits the end of the tick
-pub record Timed (me n period now : ℕ) (z : Station) : Type 0 where
-  pub slots : z .slot ≡ now → fitSlot me n period now z ≡ true
+pub record Timed (ranks : List ℕ) (me n period now : ℕ) (z : Station) : Type 0 where
+  pub slots : z .slot ≡ now → fitSlot ranks me n period now z ≡ true
   pub fits : z .slot ≢ now → fit me n period now z ≡ true
 
-module _ (me n period now : ℕ) where
+module _ (ranks : List ℕ) (me n period now : ℕ) where
   -- (b)
-  pub expires-timed : (y : Station) → During me n period now y → Timed me n period now (expiredNow (expired me) now y)
+  pub expires-timed : (y : Station) → During ranks me n period now y → Timed ranks me n period now (expiredNow (expired me) now y)
   expires-timed y d =
-      expiredNow-elim (Timed me n period now) (expired me) now y
+      expiredNow-elim (Timed ranks me n period now) (expired me) now y
       (λ due.
       let same : expired me y .slot ≡ y .slot = expired-unchanged me y .slot in
       record {
-        slots = λ i. expire-slots me n period now y (during-expires me n period now y d due) (sym same ∙ i);
-        fits = λ i. expire-fits me n period now y (during-expires me n period now y d due) (λ j. i (same ∙ j));
+        slots = λ i. expire-slots ranks me n period now y (d .ranked) (during-expires ranks me n period now y d due) (sym same ∙ i);
+        fits = λ i. expire-fits me n period now y (during-expires ranks me n period now y d due) (λ j. i (same ∙ j));
       })
-      (λ ne. record { slots = during-slots me n period now y d ne; fits = during-fits me n period now y d ne })
+      (λ ne. record { slots = during-slots ranks me n period now y d ne; fits = during-fits ranks me n period now y d ne })
 
   -- (c) leaves a station that fits the end of the tick
-  pub slots-fit : (z : Station) → Timed me n period now z → fit me n period now (slottedNow (slotted period now) now z) ≡ true
+  pub slots-fit : (z : Station) → Timed ranks me n period now z → fit me n period now (slottedNow (slotted period now) now z) ≡ true
   unfolding slotted
-  slots-fit z t = slottedNow-elim (λ (y : Station). fit me n period now y ≡ true) (slotted period now) now z (λ e. slot-keeps me n period now z (t .slots e)) (t .fits)
+  slots-fit z t = slottedNow-elim (λ (y : Station). fit me n period now y ≡ true) (slotted period now) now z (λ e. slot-keeps ranks me n period now z (t .slots e)) (t .fits)
 
 module _ (s : System) (f : Sound s) (before : s .tick < 1000000) (p : ℕ) (h : In (s .n) p) where
   -- what is due from the first j senders is heard, and so is all
-  pub heard-below : station s p .up ≡ true → (j : ℕ) → j ≤ s .n → Ready p (s .n) (s .period) (next s) j (each j (λ k. heardLink (hearing s) p (k + 1) (next s) (underway s (k + 1) p)) (station s p))
+  pub heard-below : station s p .up ≡ true → (j : ℕ) → j ≤ s .n → Ready (s .ranks) p (s .n) (s .period) (next s) j (each j (λ k. heardLink (hearing s) p (k + 1) (next s) (underway s (k + 1) p)) (station s p))
   heard-below u j l =
-      hears-below p (s .n) (s .period) (s .tick) (λ q. station s q) (λ q. underway s q p) (λ q hq ne. underway-spaced s f q p hq h ne) (underway-self s f p h) j (station s p) l
-      (fit-ready p (s .n) (s .period) (s .tick) (station s p) before (f .fits p h) u)
+      hears-below (s .ranks) p (s .n) (s .period) (s .tick) (λ q. station s q) (λ q. underway s q p) (λ q hq ne. underway-spaced s f q p hq h ne) (underway-self s f p h) j (station s p) l
+      (fit-ready (s .ranks) p (s .n) (s .period) (s .tick) (station s p) before (f .ranked) (f .fits p h) u)
 
-  pub heard-timely : station s p .up ≡ true → During p (s .n) (s .period) (next s) (heardBy s p (station s p))
+  pub heard-timely : station s p .up ≡ true → During (s .ranks) p (s .n) (s .period) (next s) (heardBy s p (station s p))
   unfolding heardAll
   heard-timely u = heard-below u (s .n) (omega arith) .during
 
-  pub settled-timed : station s p .up ≡ true → Timed p (s .n) (s .period) (next s) (settled s p)
-  settled-timed u = rw (settled-up s p u) (expires-timed p (s .n) (s .period) (next s) _ (heard-timely u))
+  pub settled-timed : station s p .up ≡ true → Timed (s .ranks) p (s .n) (s .period) (next s) (settled s p)
+  settled-timed u = rw (settled-up s p u) (expires-timed (s .ranks) p (s .n) (s .period) (next s) _ (heard-timely u))
 
   -- a station that is down has no send chance, so the tick leaves it as it is
   tick-down : station s p .up ≡ false → station (tick s) p ≡ station s p
@@ -70,7 +71,7 @@ module _ (s : System) (f : Sound s) (before : s .tick < 1000000) (p : ℕ) (h : 
   tick-fits = go (station s p .up) refl
     where
       go : (b : Bool) → station s p .up ≡ b → fit p (s .n) (s .period) (next s) (station (tick s) p) ≡ true
-      go true u = rw (tick-station s (f .n-high) p h) (slots-fit p (s .n) (s .period) (next s) (settled s p) (settled-timed u))
+      go true u = rw (tick-station s (f .n-high) p h) (slots-fit (s .ranks) p (s .n) (s .period) (next s) (settled s p) (settled-timed u))
       go false u = rw (tick-down u) (down-keeps p (s .n) (s .period) (s .tick) (station s p) (next s) (f .fits p h) u)
 
   -- who sends has counts in range
@@ -78,4 +79,4 @@ module _ (s : System) (f : Sound s) (before : s .tick < 1000000) (p : ℕ) (h : 
   sends-counts e =
       let (u, due, self) = sending-of s p e in
       of-counts (s .n) (settled s p .recovered)
-      (slotting-of p (s .n) (s .period) (next s) (settled s p) (settled-timed u .slots (settled-unchanged s p .slot ∙ due)) .living .counts)
+      (slotting-of (s .ranks) p (s .n) (s .period) (next s) (settled s p) (settled-timed u .slots (settled-unchanged s p .slot ∙ due)) .living .counts)

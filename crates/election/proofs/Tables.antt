@@ -11,13 +11,14 @@ use borrow.Author.Tests.{eq-eqb, ne-eqb}
 use Rattle.election.specs.Commands.{Command, decode, operands, ruling, perform, command}
 use Rattle.election.specs.Errors.{errors, prints, NoneOfTheErrors}
 use Rattle.election.specs.Listing.{reported, lastLine, reports, output}
+use Rattle.election.specs.Ranked.{preferences, changes, RanksRehearsed}
 use Rattle.election.specs.Rehearsals.{rehearsals, Rehearsed}
 use Rattle.election.specs.Rows.{View, Printed, InLast, viewed, Row, Hold}
 use Rattle.election.specs.Schedule.{End, follow, mostBytes, schedule}
 use Rattle.election.specs.Sound.{sound}
 use Rattle.election.specs.System.{fresh}
 use Rattle.election.specs.declared.System.{System}
-use Rattle.election.proofs.Computed.{errors-ruled, prints-ruled, spelled-out, rehearsals-ruled}
+use Rattle.election.proofs.Computed.{errors-ruled, prints-ruled, spelled-out, rehearsals-ruled, preferences-ruled, changes-ruled}
 use Rattle.election.proofs.Follow.{follow-yes, follow-stops, reports-yes, reports-stops}
 use Rattle.election.proofs.Followed.{rules-refusal, rules-performs, rules-length}
 use Rattle.election.proofs.InitialSound.{fresh-sound}
@@ -95,3 +96,6 @@ errors-ruled-out =
 
 pub rehearsed : Rehearsed
 rehearsed = hold-ruled rehearsals rehearsals-ruled
+
+pub ranks-rehearsed : RanksRehearsed
+ranks-rehearsed = (hold-ruled preferences preferences-ruled, hold-ruled changes changes-ruled)

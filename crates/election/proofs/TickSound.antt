@@ -114,6 +114,7 @@ module _ (s : System) (f : Sound s) (before : s .tick < 1000000) where
         short = f .short;
         linked = after-linked;
         no-link = after-place;
+        ranked = f .ranked;
       }
 
 -- what each tick keeps, a run of ticks keeps

@@ -1,4 +1,4 @@
--- Soundness of messages, computed: systems that are sound, and systems that breach one clause alone.
+-- Soundness of messages and of ranks, computed: systems that are sound, and systems that breach one clause alone.
 use mathlib.Core.Path.{_≡_}
 use mathlib.Core.List.{List, [], _∷_, _++_}
 use mathlib.Core.Bool.{Bool, true, false}
@@ -7,7 +7,7 @@ use lib.ListN.{replicate}
 use Rattle.election.specs.Rows.{start, crash, run, at20}
 use Rattle.election.specs.Schedule.{schedule}
 use Rattle.election.specs.Sound.{sound}
-use Rattle.election.specs.System.{unused, holding, withLink}
+use Rattle.election.specs.System.{unused, holding, withLink, withRank}
 use Rattle.election.specs.declared.Message.{Message}
 use Rattle.election.specs.declared.System.{System}
 
@@ -29,6 +29,8 @@ sounds s =
     ∷ withLink 1 2 (holding (counting 33 288 4095 0 ∷ [])) s
     -- two sendings a period apart
     ∷ withLink 1 2 (holding (message 17 35 ∷ message 33 35 ∷ [])) s
+    -- the largest rank
+    ∷ withRank 2 7 s
     ∷ []
 
 abbrev pub breaches : System → List System
@@ -48,6 +50,10 @@ breaches s =
     -- an unused place that is not zero; a link of a station to itself
     ∷ withLink 1 2 (record { used = 0; messages = message 33 35 ∷ replicate 15 unused }) s
     ∷ withLink 1 1 (holding (message 33 35 ∷ [])) s
+    -- a rank above 7; a rank beyond the stations
+    ∷ withRank 2 8 s
+    ∷ withRank 3 1 s
+    ∷ withRank 8 1 s
     ∷ []
 
 unfoldable pub soundEach : List System → List Bool
@@ -56,5 +62,5 @@ soundEach (s ∷ ss) = sound s ∷ soundEach ss
 
 abbrev pub Clauses : Type 0
 Clauses =
-    (soundEach (sounds base) ≡ true ∷ true ∷ true ∷ [])
-    × (soundEach (breaches base) ≡ false ∷ false ∷ false ∷ false ∷ false ∷ false ∷ false ∷ false ∷ false ∷ false ∷ [])
+    (soundEach (sounds base) ≡ true ∷ true ∷ true ∷ true ∷ [])
+    × (soundEach (breaches base) ≡ replicate 13 false)

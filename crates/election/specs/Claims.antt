@@ -6,9 +6,10 @@ use mathlib.Core.Bool.{true, false}
 use Prim.Native.Nat.{ℕ, _<_, _≤_}
 use lib.ListN.{length}
 use Rattle.station.specs.Limits.{lastTick}
+use Rattle.station.specs.Order.{entry}
 use Rattle.election.specs.Commands.{Bytes, command}
 use Rattle.election.specs.Schedule.{schedule}
-use Rattle.election.specs.History.{commands, starts, isUp}
+use Rattle.election.specs.History.{commands, starts, isUp, rankOf}
 use Rattle.election.specs.Sound.{sound}
 use Rattle.election.specs.System.{places, station, fresh}
 use Rattle.election.specs.Tick.{underwayAfter}
@@ -62,6 +63,12 @@ abbrev pub UpIsLatest : Type 0
 UpIsLatest =
     (bytes : List ℕ) → schedule bytes .refusal ≡ 0 → (p : ℕ) → 1 ≤ p → p ≤ schedule bytes .system .n
     → station (schedule bytes .system) p .up ≡ isUp false p (commands bytes)
+
+-- and its rank in the table is the latest accepted one, 0 if there is none: nothing but a rank command sets it
+abbrev pub RankIsLatest : Type 0
+RankIsLatest =
+    (bytes : List ℕ) → schedule bytes .refusal ≡ 0 → (p : ℕ) → 1 ≤ p → p ≤ schedule bytes .system .n
+    → entry (schedule bytes .system .ranks) p ≡ rankOf 0 p (commands bytes)
 
 -- no command lowers a count, from every sound system that is set up
 abbrev pub CountsNeverFall : Type 0

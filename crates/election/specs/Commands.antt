@@ -6,17 +6,19 @@ use lib.ListN.{length, getD}
 use lib.Dec.{leb, ltb, eqb}
 use Rattle.lists.specs.Every.{All}
 use Rattle.lists.specs.First.{firstFailed}
+use Rattle.lists.specs.Test.{allTo}
 use Rattle.fit.specs.Fit.{within, longestDelay}
-use Rattle.station.specs.Limits.{lastTick, mostStarts}
+use Rattle.station.specs.Limits.{lastTick, mostStarts, mostRank}
 use Rattle.station.specs.Rules.{started, crashed}
+use Rattle.station.specs.declared.Station.{Station}
 use Rattle.election.specs.Sound.{sound}
-use Rattle.election.specs.System.{station, initial, withStation, withDelay, withoutMessages}
+use Rattle.election.specs.System.{noStation, station, initial, withStation, withDelay, withoutMessages, withRank}
 use Rattle.election.specs.Tick.{ticks}
 use Rattle.election.specs.declared.Answer.{Answer}
 use Rattle.election.specs.declared.Answer.the-variants.{Done, Refused}
 use Rattle.election.specs.declared.Commanded.{Commanded}
 use Rattle.election.specs.declared.Refusal.{Refusal}
-use Rattle.election.specs.declared.Refusal.the-variants.{UnknownCommand, MissingOperand, NotSetUp, SetUpTwice, StationsRange, PeriodRange, StationRange, StationUp, StationDown, WornOut, SameStation, NoTicks, PastLastTick, Unsound, BufferShort, ScheduleLong}
+use Rattle.election.specs.declared.Refusal.the-variants.{UnknownCommand, MissingOperand, NotSetUp, SetUpTwice, StationsRange, PeriodRange, StationRange, StationUp, StationDown, WornOut, SameStation, NoTicks, PastLastTick, Unsound, BufferShort, ScheduleLong, RankRange, AlreadyStarted}
 use Rattle.election.specs.declared.System.{System}
 
 -- numbers that are bytes
@@ -31,8 +33,9 @@ pub data Command : Type 0 where
   Run : ℕ → Command
   Lose : ℕ → ℕ → Command
   Report : Command
+  Rank : ℕ → ℕ → Command
 
--- 01 set up, 02 start, 03 crash, 04 link, 05 run (low byte first), 06 lose, 07 report
+-- 01 set up, 02 start, 03 crash, 04 link, 05 run (low byte first), 06 lose, 07 report, 08 rank
 unfoldable pub decode : List ℕ → Command
 decode bytes =
     let b : ℕ = getD bytes 0 0 in
@@ -45,7 +48,12 @@ decode bytes =
     (cond (eqb b 4) (Link x y z)
     (cond (eqb b 5) (Run (x + 256 * y))
     (cond (eqb b 6) (Lose x y)
-    Report)))))
+    (cond (eqb b 8) (Rank x y)
+    Report))))))
+
+-- the last of the command bytes
+abbrev pub lastCommand : ℕ
+lastCommand = 8
 
 -- the bytes of its operands
 abbrev pub operands : Command → ℕ
@@ -56,6 +64,11 @@ operands (Link p q d) = 3
 operands (Run t) = 2
 operands (Lose p q) = 2
 operands Report = 0
+operands (Rank p r) = 2
+
+-- no kept start count is above 0, of a station that is down neither
+abbrev pub noneStarted : List Station → Bool
+noneStarted stations = allTo 8 (λ k. eqb (getD stations k noStation .incarnation) 0)
 
 -- what turns a command down, in order
 abbrev pub tests : System → Command → List (Bool × ℕ)
@@ -69,13 +82,14 @@ tests s (Link p q d) =
 tests s (Run t) = (s .ready, 3) ∷ (ltb 0 t, 13) ∷ (leb (s .tick + t) lastTick, 14) ∷ []
 tests s (Lose p q) = (s .ready, 3) ∷ (within 1 p (s .n) && within 1 q (s .n), 7) ∷ (not (eqb p q), 11) ∷ []
 tests s Report = (s .ready, 3) ∷ []
+tests s (Rank p r) = (s .ready, 3) ∷ (within 1 p (s .n), 7) ∷ (leb r mostRank, 22) ∷ (noneStarted (s .stations), 23) ∷ []
 
 -- the refusal that the rules give to the first command of the bytes, 0 for none
 abbrev pub ruling : System → List ℕ → ℕ
 ruling s bytes =
     firstFailed
     ((ltb 0 (length bytes), 2)
-    ∷ (within 1 (getD bytes 0 0) 7, 1)
+    ∷ (within 1 (getD bytes 0 0) lastCommand, 1)
     ∷ (ltb (operands (decode bytes)) (length bytes), 2)
     ∷ tests s (decode bytes))
 
@@ -92,6 +106,7 @@ perform (Link p q d) s = withDelay p q d s
 perform (Run t) s = ticks t s
 perform (Lose p q) s = withoutMessages p q s
 perform Report s = s
+perform (Rank p r) s = withRank p r s
 
 -- what Command answers: the refusal, 0 for none; the length of the command; the system
 pub record Result : Type 0 where
@@ -111,7 +126,7 @@ outcome refusal c s =
 unfoldable pub command : System → List ℕ → Result
 command s bytes = outcome (refusal s bytes) (decode bytes) s
 
--- document 01's number of a refusal
+-- the papers' number of a refusal
 abbrev pub numberOf : Refusal → ℕ
 numberOf UnknownCommand = 1
 numberOf MissingOperand = 2
@@ -129,6 +144,8 @@ numberOf PastLastTick = 14
 numberOf Unsound = 15
 numberOf BufferShort = 16
 numberOf ScheduleLong = 21
+numberOf RankRange = 22
+numberOf AlreadyStarted = 23
 
 -- number and length of an answer
 abbrev pub refusalOf : Answer → ℕ

@@ -177,6 +177,7 @@ untouched ready n period leaders delays =
       sent = replicate 8 0;
       delays = delays;
       links = replicate 64 (record { used = 0; messages = replicate 16 (record { sent = 0; due = 0; counts = replicate 8 0 }) });
+      ranks = replicate 8 0;
     }
 
 -- the empty schedule leaves the fresh system, all zero

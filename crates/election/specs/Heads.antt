@@ -1,4 +1,5 @@
 -- What the heads of a system do in a tick: the four rules that the tick goes by.
+use mathlib.Core.List.{List}
 use mathlib.Core.Bool.{Bool}
 use Prim.Native.Nat.{ℕ}
 use Rattle.station.specs.Rules.{heard, expired, slotted, sends}
@@ -10,13 +11,13 @@ use Rattle.election.specs.declared.System.{System}
 abbrev pub Hearing : Type 0
 Hearing = ℕ → ℕ → Message → ℕ → Station → Station
 
--- hearing by the counts that the message brings
-abbrev pub byCounts : Hearing
-byCounts me q m now x = heard me q (m .counts) now x
+-- hearing by the ranks, and by the counts that the message brings
+abbrev pub byCounts : List ℕ → Hearing
+byCounts ranks me q m now x = heard ranks me q (m .counts) now x
 
 -- (a) hearing
 abbrev pub hearing : System → Hearing
-hearing s = byCounts
+hearing s = byCounts (s .ranks)
 
 -- (b) the end of a timer
 abbrev pub expiring : System → ℕ → Station → Station

@@ -1,10 +1,10 @@
--- The accepted commands of a schedule: the system that they reach, a head's starts, and whether it is up.
+-- The accepted commands of a schedule: the system that they reach, a head's starts, whether it is up, and its rank.
 use mathlib.Core.List.{List, [], _∷_}
 use mathlib.Core.Bool.{Bool, true, false, cond}
 use Prim.Native.Nat.{ℕ, zero, suc, _+_}
 use lib.ListN.{length, drop}
 use lib.Dec.{eqb}
-use Rattle.election.specs.Commands.{Command, SetUp, Start, Crash, Link, Run, Lose, Report, decode, operands, ruling, perform}
+use Rattle.election.specs.Commands.{Command, SetUp, Start, Crash, Link, Run, Lose, Report, Rank, decode, operands, ruling, perform}
 use Rattle.election.specs.System.{fresh}
 use Rattle.election.specs.declared.System.{System}
 
@@ -39,6 +39,7 @@ starts p (Link a b d ∷ cs) = starts p cs
 starts p (Run t ∷ cs) = starts p cs
 starts p (Lose a b ∷ cs) = starts p cs
 starts p (Report ∷ cs) = starts p cs
+starts p (Rank q r ∷ cs) = starts p cs
 
 -- it is up if the latest accepted of its starts and crashes is a start; u is whether it was up before
 unfoldable pub isUp : Bool → ℕ → List Command → Bool
@@ -50,6 +51,19 @@ isUp u p (Link a b d ∷ cs) = isUp u p cs
 isUp u p (Run t ∷ cs) = isUp u p cs
 isUp u p (Lose a b ∷ cs) = isUp u p cs
 isUp u p (Report ∷ cs) = isUp u p cs
+isUp u p (Rank q r ∷ cs) = isUp u p cs
+
+-- its rank is 0 from set up on, then the latest accepted one; r is the rank that it had before
+unfoldable pub rankOf : ℕ → ℕ → List Command → ℕ
+rankOf r p [] = r
+rankOf r p (SetUp n period ∷ cs) = rankOf 0 p cs
+rankOf r p (Start q ∷ cs) = rankOf r p cs
+rankOf r p (Crash q ∷ cs) = rankOf r p cs
+rankOf r p (Link a b d ∷ cs) = rankOf r p cs
+rankOf r p (Run t ∷ cs) = rankOf r p cs
+rankOf r p (Lose a b ∷ cs) = rankOf r p cs
+rankOf r p (Report ∷ cs) = rankOf r p cs
+rankOf r p (Rank q x ∷ cs) = rankOf (cond (eqb q p) x r) p cs
 
 -- the system that the rules give for a list of accepted commands
 unfoldable pub reached : List Command → System → System

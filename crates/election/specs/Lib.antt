@@ -15,9 +15,10 @@ pub mod Onward
 -- The accepted commands of a schedule, and the claims
 pub mod History
 pub mod Claims
--- Tables that are computed: the rehearsals, the errors ruled out, and soundness breached clause by clause
+-- Tables that are computed: the rehearsals, the ranks, the errors ruled out, and soundness breached clause by clause
 pub mod Text
 pub mod Rows
 pub mod Rehearsals
+pub mod Ranked
 pub mod Errors
 pub mod Breaches

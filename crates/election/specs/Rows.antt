@@ -48,6 +48,10 @@ kept p s = station s p .leader ∷ station s p .stable ∷ []
 abbrev pub known : ℕ → System → List ℕ
 known p s = station s p .leader ∷ take (s .n) (station s p .recovered)
 
+-- the ranks
+abbrev pub ranked : System → List ℕ
+ranked s = s .ranks
+
 -- how many messages a station has sent; the delay of a link; how many messages are under way on it and on the way back
 abbrev pub sentCount : ℕ → System → List ℕ
 sentCount p s = sentBy s p ∷ []
@@ -79,6 +83,9 @@ lose p q = 0x06 ∷ p ∷ q ∷ []
 
 abbrev pub report : List ℕ
 report = 0x07 ∷ []
+
+abbrev pub rank : ℕ → ℕ → List ℕ
+rank p r = 0x08 ∷ p ∷ r ∷ []
 
 -- η 16, two stations, both started; the same run to tick 20
 abbrev pub started : List ℕ

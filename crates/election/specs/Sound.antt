@@ -1,10 +1,10 @@
--- Soundness, clause by clause (the last paragraph of "What is turned down"). All sums are over the natural numbers.
+-- Soundness, clause by clause (the last paragraph of "What is turned down", and Paper 3 of document 02 for the ranks). All sums are over the natural numbers.
 use mathlib.Core.Bool.{Bool, true, cond, not, _&&_, _||_}
 use Prim.Native.Nat.{ℕ, _+_, _*_}
 use lib.ListN.{getD}
 use lib.Dec.{leb, ltb, eqb}
 use Rattle.lists.specs.Test.{allTo}
-use Rattle.fit.specs.Fit.{within, countsIn, cleared, fit, longestDelay}
+use Rattle.fit.specs.Fit.{within, countsIn, ranksIn, cleared, fit, longestDelay}
 use Rattle.station.specs.Limits.{lastTick}
 use Rattle.station.specs.declared.Station.{Station}
 use Rattle.election.specs.System.{places, noStation, noMessage, noLink, station, from, to, isLink}
@@ -87,4 +87,5 @@ stationIn s k = stationPlace (s .n) (s .period) (s .tick) k (getD (s .stations) 
 unfoldable pub sound : System → Bool
 sound s =
     not (s .ready)
-    || (within 2 (s .n) 8 && within 16 (s .period) 255 && leb (s .tick) lastTick && allTo 8 (stationIn s) && allTo 64 (placeIn s))
+    || (within 2 (s .n) 8 && within 16 (s .period) 255 && leb (s .tick) lastTick && allTo 8 (stationIn s) && allTo 64 (placeIn s)
+    && ranksIn (s .n) (s .ranks))

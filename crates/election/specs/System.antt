@@ -94,9 +94,10 @@ fresh =
       sent = replicate 8 0;
       delays = replicate 64 0;
       links = replicate 64 (holding []);
+      ranks = replicate 8 0;
     }
 
--- Set up leaves the tick at 0, every station down and never started, no message under way, sent counts at 0, every delay at 1.
+-- Set up leaves the tick at 0, every station down and never started, no message under way, sent counts and ranks at 0, every delay at 1.
 unfoldable pub initial : ℕ → ℕ → System
 initial n period =
     record {
@@ -108,6 +109,7 @@ initial n period =
       sent = replicate 8 0;
       delays = upTo 64 (λ k. cond (isLink n (from k) (to k)) 1 0);
       links = replicate 64 (holding []);
+      ranks = replicate 8 0;
     }
 
 -- the system with another tick, and other stations, sent counts, delays and links; all else stays
@@ -122,6 +124,7 @@ renewed tick stations sent delays links s =
       sent = sent;
       delays = delays;
       links = links;
+      ranks = s .ranks;
     }
 
 -- .. with one of these alone
@@ -153,3 +156,18 @@ withLink p q l s = withLinks (set (s .links) (place p q) l) s
 -- .. without the messages under way from p to q
 abbrev pub withoutMessages : ℕ → ℕ → System → System
 withoutMessages p q s = withLink p q (holding []) s
+
+-- the system with another rank of station p
+abbrev pub withRank : ℕ → ℕ → System → System
+withRank p r s =
+    record {
+      ready = s .ready;
+      n = s .n;
+      period = s .period;
+      tick = s .tick;
+      stations = s .stations;
+      sent = s .sent;
+      delays = s .delays;
+      links = s .links;
+      ranks = set (s .ranks) (p - 1) r;
+    }

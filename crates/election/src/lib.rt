@@ -33,6 +33,8 @@ pub struct System {
     pub sent: [u32; 8],
     pub delays: [u8; 64],
     pub links: [Link; 64],
+    // the rank of each station, which all stations know
+    pub ranks: [u8; 8],
 }
 
 // Why something is turned down.
@@ -53,6 +55,8 @@ pub enum Refusal {
     Unsound,
     BufferShort,
     ScheduleLong,
+    RankRange,
+    AlreadyStarted,
 }
 
 // What a command or a listing answers: its length, or why it was turned down.

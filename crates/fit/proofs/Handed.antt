@@ -8,36 +8,48 @@ use Prim.Native.Nat.{ℕ, _+_, _-_, _<_, _≤_, min}
 use native.Mathlib.Omega.{arith}
 use lib.Dec.{leb, ltb, eqb}
 use borrow.Author.Tests.{ltb-true, leb-true, eqb-true, eqb-false, lt-ltb, le-leb, eq-eqb, ne-eqb, not-true}
-use Rattle.lists.proofs.Bools.{both, three, four, six, either, or-right}
+use Rattle.lists.proofs.Bools.{both, three, four, five, either, or-right}
 use Rattle.station.specs.Order.{entry, precedes}
-use Rattle.fit.specs.Fit.{flight, within, ranges, keptIn, countsIn, timeoutsIn, alive, timerIn, standing, fit, justSet, timeoutsAt, fitExpire, fitMessage, heardBefore, fitHear, unended, ended, fitSlot}
+use Rattle.fit.specs.Fit.{flight, within, ranges, keptIn, countsIn, ranksIn, timeoutsIn, alive, timerIn, standing, fit, justSet, timeoutsAt, fitExpire, inTick, fitMessage, heardBefore, fitHear, unended, ended, fitSlot}
 use Rattle.station.specs.Limits.{lastTick, longest}
 use Rattle.station.specs.declared.Station.{Station}
-use Rattle.station.proofs.Candidates.{keyOf, precedes-less, less-precedes}
-use Rattle.fit.proofs.Tests.{Ranges, Kept, Counts, Timeouts, Alive, Timer, Standing, within-of, of-within, ranges-of, of-ranges, kept-of, of-kept, counts-of, of-counts, timeouts-of, of-timeouts, alive-of, of-alive, timer-of, of-timer, standing-of, of-standing, fit-ranges, fit-of, of-fit}
+use Rattle.station.proofs.Candidates.{Ranked, keyOf, precedes-less, less-precedes}
+use Rattle.fit.proofs.Tests.{Ranges, Kept, Counts, Timeouts, Alive, Timer, Standing, within-of, of-within, ranges-of, of-ranges, kept-of, of-kept, counts-of, of-counts, ranked-of, timeouts-of, of-timeouts, alive-of, of-alive, timer-of, of-timer, standing-of, of-standing, fit-ranges, fit-of, of-fit}
 
 -- the timer was set in this tick
-pub record JustSet (me tick : ℕ) (s : Station) : Type 0 where
+pub record JustSet (ranks : List ℕ) (me tick : ℕ) (s : Station) : Type 0 where
   pub ends : s .timer ≡ tick + entry (s .timeouts) (s .leader)
-  pub first : keyOf (s .recovered) (s .leader) < keyOf (s .recovered) me
+  pub first : keyOf ranks (s .recovered) (s .leader) < keyOf ranks (s .recovered) me
 
-module _ (me tick : ℕ) (s : Station) (hm : me < 16) (hl : s .leader < 16) where
-  pub justSet-of : justSet me tick s ≡ true → JustSet me tick s
+module _ (ranks : List ℕ) (me tick : ℕ) (s : Station) (ranked : Ranked ranks) (hm : me ≤ 8) (hl : s .leader ≤ 8) where
+  pub justSet-of : justSet ranks me tick s ≡ true → JustSet ranks me tick s
   unfolding justSet
   justSet-of e =
-      let (a, b) = both (eqb (s .timer) (tick + entry (s .timeouts) (s .leader))) (precedes (s .recovered) (s .leader) me) e in
-      record { ends = eqb-true (s .timer) (tick + entry (s .timeouts) (s .leader)) a; first = precedes-less (s .recovered) (s .leader) me hl hm b }
+      let (a, b) = both (eqb (s .timer) (tick + entry (s .timeouts) (s .leader))) (precedes ranks (s .recovered) (s .leader) me) e in
+      record { ends = eqb-true (s .timer) (tick + entry (s .timeouts) (s .leader)) a; first = precedes-less ranks (s .recovered) (s .leader) me ranked hl hm b }
 
-  pub of-justSet : JustSet me tick s → justSet me tick s ≡ true
+  pub of-justSet : JustSet ranks me tick s → justSet ranks me tick s ≡ true
   unfolding justSet
   of-justSet j =
-      rw (eq-eqb (s .timer) (tick + entry (s .timeouts) (s .leader)) (j .ends), less-precedes (s .recovered) (s .leader) me hl hm (j .first))
+      rw (eq-eqb (s .timer) (tick + entry (s .timeouts) (s .leader)) (j .ends), less-precedes ranks (s .recovered) (s .leader) me ranked hl hm (j .first))
 
 -- the values that a tick gives
 pub record InTick (me n period tick : ℕ) : Type 0 where
   pub tick-low : 1 ≤ tick
   pub tick-high : tick ≤ 1000000
   pub given : Ranges me n period
+
+module _ (ranks : List ℕ) (me n period tick : ℕ) where
+  inTick-of : inTick ranks me n period tick ≡ true → InTick me n period tick × (ranksIn n ranks ≡ true)
+  unfolding inTick
+  inTick-of e =
+      let (a, b, c) = three (within 1 tick lastTick) (ranges me n period) (ranksIn n ranks) e in
+      let (low, high) = within-of 1 tick lastTick a in
+      (record { tick-low = low; tick-high = high; given = ranges-of me n period b }, c)
+
+  of-inTick : InTick me n period tick → ranksIn n ranks ≡ true → inTick ranks me n period tick ≡ true
+  unfolding inTick
+  of-inTick w e = rw (of-within 1 tick lastTick (w .tick-low) (w .tick-high), of-ranges me n period (w .given), e)
 
 -- a message from another station
 pub record Message (me n q : ℕ) (v : List ℕ) : Type 0 where
@@ -79,46 +91,48 @@ module _ (period tick q : ℕ) (s : Station) where
   of-before (inr a) = or-right (ltb (s .leader) q) (eqb (s .leader) q && leb period (min (tick - 1) flight)) (rw (eq-eqb (s .leader) q (a .0), le-leb period (min (tick - 1) flight) (a .1)))
 
 -- what hearing LEADER is handed
-pub record Hearing (me n period tick q : ℕ) (v : List ℕ) (s : Station) : Type 0 where
+pub record Hearing (ranks : List ℕ) (me n period tick q : ℕ) (v : List ℕ) (s : Station) : Type 0 where
   pub values : InTick me n period tick
+  pub ranked : ranksIn n ranks ≡ true
   pub kept : Kept n (s .incarnation) (s .stable)
   pub message : Message me n q v
   pub stands : Standing me n period (tick - 1) s
-  pub timer : Timer me (tick - 1) s ⊎ (JustSet me tick s × Before period tick q s)
+  pub timer : Timer me (tick - 1) s ⊎ (JustSet ranks me tick s × Before period tick q s)
 
-module _ (me n period tick q : ℕ) (v : List ℕ) (s : Station) where
-  pub hearing-of : fitHear me n period tick q v s ≡ true → Hearing me n period tick q v s
+module _ (ranks : List ℕ) (me n period tick q : ℕ) (v : List ℕ) (s : Station) where
+  pub hearing-of : fitHear ranks me n period tick q v s ≡ true → Hearing ranks me n period tick q v s
   unfolding fitHear
   hearing-of e =
-      let (a, b, c, d, f, g) = six (within 1 tick lastTick) (ranges me n period) (keptIn n s) (fitMessage me n q v) (standing me n period (tick - 1) s) (timerIn me (tick - 1) s || (justSet me tick s && heardBefore period tick q s)) e in
-      let (low, high) = within-of 1 tick lastTick a in
-      let r : Ranges me n period = ranges-of me n period b in
+      let (a, c, d, f, g) = five (inTick ranks me n period tick) (keptIn n s) (fitMessage me n q v) (standing me n period (tick - 1) s) (timerIn me (tick - 1) s || (justSet ranks me tick s && heardBefore period tick q s)) e in
+      let (w, i) = inTick-of ranks me n period tick a in
+      let r : Ranges me n period = w .given in
       let st : Standing me n period (tick - 1) s = standing-of me n period (tick - 1) s f in
       record {
-        values = record { tick-low = low; tick-high = high; given = r };
+        values = w;
+        ranked = i;
         kept = kept-of n s c;
         message = message-of me n q v d;
         stands = st;
-        timer = go r st (either (timerIn me (tick - 1) s) (justSet me tick s && heardBefore period tick q s) g);
+        timer = go r (ranked-of n ranks i) st (either (timerIn me (tick - 1) s) (justSet ranks me tick s && heardBefore period tick q s) g);
       }
     where
-      go : Ranges me n period → Standing me n period (tick - 1) s → (timerIn me (tick - 1) s ≡ true) ⊎ ((justSet me tick s && heardBefore period tick q s) ≡ true) → Timer me (tick - 1) s ⊎ (JustSet me tick s × Before period tick q s)
-      go r st (inl t) = inl (timer-of me (tick - 1) s t)
-      go r st (inr t) =
-          let (j, b) = both (justSet me tick s) (heardBefore period tick q s) t in
-          inr (justSet-of me tick s (omega (arith, r .me-high, r .n-high)) (omega (arith, st .living .leader-high, r .n-high)) j, before-of period tick q s b)
+      go : Ranges me n period → Ranked ranks → Standing me n period (tick - 1) s → (timerIn me (tick - 1) s ≡ true) ⊎ ((justSet ranks me tick s && heardBefore period tick q s) ≡ true) → Timer me (tick - 1) s ⊎ (JustSet ranks me tick s × Before period tick q s)
+      go r i st (inl t) = inl (timer-of me (tick - 1) s t)
+      go r i st (inr t) =
+          let (j, b) = both (justSet ranks me tick s) (heardBefore period tick q s) t in
+          inr (justSet-of ranks me tick s i (omega (arith, r .me-high, r .n-high)) (omega (arith, st .living .leader-high, r .n-high)) j, before-of period tick q s b)
 
-  pub of-hearing : Hearing me n period tick q v s → fitHear me n period tick q v s ≡ true
+  pub of-hearing : Hearing ranks me n period tick q v s → fitHear ranks me n period tick q v s ≡ true
   unfolding fitHear
   of-hearing h =
-      rw (of-within 1 tick lastTick (h .values .tick-low) (h .values .tick-high), of-ranges me n period (h .values .given), of-kept n s (h .kept), of-message me n q v (h .message), of-standing me n period (tick - 1) s (h .stands))
+      rw (of-inTick ranks me n period tick (h .values) (h .ranked), of-kept n s (h .kept), of-message me n q v (h .message), of-standing me n period (tick - 1) s (h .stands))
       (go (h .timer))
     where
-      go : Timer me (tick - 1) s ⊎ (JustSet me tick s × Before period tick q s) → (timerIn me (tick - 1) s || (justSet me tick s && heardBefore period tick q s)) ≡ true
+      go : Timer me (tick - 1) s ⊎ (JustSet ranks me tick s × Before period tick q s) → (timerIn me (tick - 1) s || (justSet ranks me tick s && heardBefore period tick q s)) ≡ true
       go (inl t) = rw (of-timer me (tick - 1) s t)
       go (inr t) =
-          or-right (timerIn me (tick - 1) s) (justSet me tick s && heardBefore period tick q s)
-          (rw (of-justSet me tick s (omega (arith, h .values .given .me-high, h .values .given .n-high)) (omega (arith, h .stands .living .leader-high, h .values .given .n-high)) (t .0), of-before period tick q s (t .1)))
+          or-right (timerIn me (tick - 1) s) (justSet ranks me tick s && heardBefore period tick q s)
+          (rw (of-justSet ranks me tick s (ranked-of n ranks (h .ranked)) (omega (arith, h .values .given .me-high, h .values .given .n-high)) (omega (arith, h .stands .living .leader-high, h .values .given .n-high)) (t .0), of-before period tick q s (t .1)))
 
 -- what the end of a timer is handed
 pub record Expiring (me n period tick : ℕ) (s : Station) : Type 0 where
@@ -150,9 +164,9 @@ module _ (me n period tick : ℕ) (s : Station) where
       rw (of-within 1 tick lastTick (x .values .tick-low) (x .values .tick-high), of-fit me n period (tick - 1) s (x .values .given) (x .kept) (x .stands) (x .timer), x .stands .living .up, eq-eqb (s .timer) tick (x .now))
 
 -- the timer did not end in this tick, or it did and raised a timeout to the highest
-pub record Unended (me n period tick : ℕ) (s : Station) : Type 0 where
+pub record Unended (ranks : List ℕ) (me n period tick : ℕ) (s : Station) : Type 0 where
   pub timeouts : Timeouts me n period (longest (tick - 1)) (s .timeouts)
-  pub timer : (Timer me (tick - 1) s × (s .timer ≢ tick)) ⊎ JustSet me tick s
+  pub timer : (Timer me (tick - 1) s × (s .timer ≢ tick)) ⊎ JustSet ranks me tick s
 
 pub record Ended (me n period tick : ℕ) (s : Station) : Type 0 where
   pub self : s .leader ≡ me
@@ -161,33 +175,34 @@ pub record Ended (me n period tick : ℕ) (s : Station) : Type 0 where
   pub one : timeoutsAt (longest tick) (s .timeouts) ≡ 1
 
 -- what a send chance is handed
-pub record Slotting (me n period tick : ℕ) (s : Station) : Type 0 where
+pub record Slotting (ranks : List ℕ) (me n period tick : ℕ) (s : Station) : Type 0 where
   pub values : InTick me n period tick
+  pub ranked : ranksIn n ranks ≡ true
   pub kept : Kept n (s .incarnation) (s .stable)
   pub living : Alive me n s
   pub now : s .slot ≡ tick
-  pub timer : Unended me n period tick s ⊎ Ended me n period tick s
+  pub timer : Unended ranks me n period tick s ⊎ Ended me n period tick s
 
-module _ (me n period tick : ℕ) (s : Station) where
-  unended-of : me < 16 → s .leader < 16 → unended me n period tick s ≡ true → Unended me n period tick s
+module _ (ranks : List ℕ) (me n period tick : ℕ) (s : Station) where
+  unended-of : Ranked ranks → me ≤ 8 → s .leader ≤ 8 → unended ranks me n period tick s ≡ true → Unended ranks me n period tick s
   unfolding unended
-  unended-of hm hl e =
-      let (a, b) = both (timeoutsIn me n period (longest (tick - 1)) (s .timeouts)) ((timerIn me (tick - 1) s && not (eqb (s .timer) tick)) || justSet me tick s) e in
-      record { timeouts = timeouts-of me n period (longest (tick - 1)) (s .timeouts) a; timer = go (either (timerIn me (tick - 1) s && not (eqb (s .timer) tick)) (justSet me tick s) b) }
+  unended-of i hm hl e =
+      let (a, b) = both (timeoutsIn me n period (longest (tick - 1)) (s .timeouts)) ((timerIn me (tick - 1) s && not (eqb (s .timer) tick)) || justSet ranks me tick s) e in
+      record { timeouts = timeouts-of me n period (longest (tick - 1)) (s .timeouts) a; timer = go (either (timerIn me (tick - 1) s && not (eqb (s .timer) tick)) (justSet ranks me tick s) b) }
     where
-      go : ((timerIn me (tick - 1) s && not (eqb (s .timer) tick)) ≡ true) ⊎ (justSet me tick s ≡ true) → (Timer me (tick - 1) s × (s .timer ≢ tick)) ⊎ JustSet me tick s
+      go : ((timerIn me (tick - 1) s && not (eqb (s .timer) tick)) ≡ true) ⊎ (justSet ranks me tick s ≡ true) → (Timer me (tick - 1) s × (s .timer ≢ tick)) ⊎ JustSet ranks me tick s
       go (inl x) =
           let (t, u) = both (timerIn me (tick - 1) s) (not (eqb (s .timer) tick)) x in
           inl (timer-of me (tick - 1) s t, eqb-false (s .timer) tick (not-true (eqb (s .timer) tick) u))
-      go (inr x) = inr (justSet-of me tick s hm hl x)
+      go (inr x) = inr (justSet-of ranks me tick s i hm hl x)
 
-  of-unended : me < 16 → s .leader < 16 → Unended me n period tick s → unended me n period tick s ≡ true
+  of-unended : Ranked ranks → me ≤ 8 → s .leader ≤ 8 → Unended ranks me n period tick s → unended ranks me n period tick s ≡ true
   unfolding unended
-  of-unended hm hl u = rw (of-timeouts me n period (longest (tick - 1)) (s .timeouts) (u .timeouts)) (go (u .timer))
+  of-unended i hm hl u = rw (of-timeouts me n period (longest (tick - 1)) (s .timeouts) (u .timeouts)) (go (u .timer))
     where
-      go : (Timer me (tick - 1) s × (s .timer ≢ tick)) ⊎ JustSet me tick s → ((timerIn me (tick - 1) s && not (eqb (s .timer) tick)) || justSet me tick s) ≡ true
+      go : (Timer me (tick - 1) s × (s .timer ≢ tick)) ⊎ JustSet ranks me tick s → ((timerIn me (tick - 1) s && not (eqb (s .timer) tick)) || justSet ranks me tick s) ≡ true
       go (inl x) = rw (of-timer me (tick - 1) s (x .0), ne-eqb (s .timer) tick (x .1))
-      go (inr x) = or-right (timerIn me (tick - 1) s && not (eqb (s .timer) tick)) (justSet me tick s) (of-justSet me tick s hm hl x)
+      go (inr x) = or-right (timerIn me (tick - 1) s && not (eqb (s .timer) tick)) (justSet ranks me tick s) (of-justSet ranks me tick s i hm hl x)
 
   ended-of : ended me n period tick s ≡ true → Ended me n period tick s
   unfolding ended
@@ -205,31 +220,32 @@ module _ (me n period tick : ℕ) (s : Station) where
   of-ended x =
       rw (eq-eqb (s .leader) me (x .self), eq-eqb (s .timer) 0 (x .stopped), of-timeouts me n period (longest tick) (s .timeouts) (x .timeouts), eq-eqb (timeoutsAt (longest tick) (s .timeouts)) 1 (x .one))
 
-  pub slotting-of : fitSlot me n period tick s ≡ true → Slotting me n period tick s
+  pub slotting-of : fitSlot ranks me n period tick s ≡ true → Slotting ranks me n period tick s
   unfolding fitSlot
   slotting-of e =
-      let (a, b, c, d, f, g) = six (within 1 tick lastTick) (ranges me n period) (keptIn n s) (alive me n s) (eqb (s .slot) tick) (unended me n period tick s || ended me n period tick s) e in
-      let (low, high) = within-of 1 tick lastTick a in
-      let r : Ranges me n period = ranges-of me n period b in
+      let (a, c, d, f, g) = five (inTick ranks me n period tick) (keptIn n s) (alive me n s) (eqb (s .slot) tick) (unended ranks me n period tick s || ended me n period tick s) e in
+      let (w, i) = inTick-of ranks me n period tick a in
+      let r : Ranges me n period = w .given in
       let l : Alive me n s = alive-of me n s d in
       record {
-        values = record { tick-low = low; tick-high = high; given = r };
+        values = w;
+        ranked = i;
         kept = kept-of n s c;
         living = l;
         now = eqb-true (s .slot) tick f;
-        timer = go r l (either (unended me n period tick s) (ended me n period tick s) g);
+        timer = go r (ranked-of n ranks i) l (either (unended ranks me n period tick s) (ended me n period tick s) g);
       }
     where
-      go : Ranges me n period → Alive me n s → (unended me n period tick s ≡ true) ⊎ (ended me n period tick s ≡ true) → Unended me n period tick s ⊎ Ended me n period tick s
-      go r l (inl x) = inl (unended-of (omega (arith, r .me-high, r .n-high)) (omega (arith, l .leader-high, r .n-high)) x)
-      go r l (inr x) = inr (ended-of x)
+      go : Ranges me n period → Ranked ranks → Alive me n s → (unended ranks me n period tick s ≡ true) ⊎ (ended me n period tick s ≡ true) → Unended ranks me n period tick s ⊎ Ended me n period tick s
+      go r i l (inl x) = inl (unended-of i (omega (arith, r .me-high, r .n-high)) (omega (arith, l .leader-high, r .n-high)) x)
+      go r i l (inr x) = inr (ended-of x)
 
-  pub of-slotting : Slotting me n period tick s → fitSlot me n period tick s ≡ true
+  pub of-slotting : Slotting ranks me n period tick s → fitSlot ranks me n period tick s ≡ true
   unfolding fitSlot
   of-slotting x =
-      rw (of-within 1 tick lastTick (x .values .tick-low) (x .values .tick-high), of-ranges me n period (x .values .given), of-kept n s (x .kept), of-alive me n s (x .living), eq-eqb (s .slot) tick (x .now))
+      rw (of-inTick ranks me n period tick (x .values) (x .ranked), of-kept n s (x .kept), of-alive me n s (x .living), eq-eqb (s .slot) tick (x .now))
       (go (x .timer))
     where
-      go : Unended me n period tick s ⊎ Ended me n period tick s → (unended me n period tick s || ended me n period tick s) ≡ true
-      go (inl u) = rw (of-unended (omega (arith, x .values .given .me-high, x .values .given .n-high)) (omega (arith, x .living .leader-high, x .values .given .n-high)) u)
-      go (inr u) = or-right (unended me n period tick s) (ended me n period tick s) (of-ended u)
+      go : Unended ranks me n period tick s ⊎ Ended me n period tick s → (unended ranks me n period tick s || ended me n period tick s) ≡ true
+      go (inl u) = rw (of-unended (ranked-of n ranks (x .ranked)) (omega (arith, x .values .given .me-high, x .values .given .n-high)) (omega (arith, x .living .leader-high, x .values .given .n-high)) u)
+      go (inr u) = or-right (unended ranks me n period tick s) (ended me n period tick s) (of-ended u)

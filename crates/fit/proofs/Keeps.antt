@@ -14,15 +14,15 @@ use Rattle.lists.proofs.Bools.{cond-elim}
 use Rattle.lists.proofs.Count.{count-one}
 use Rattle.station.specs.Order.{entry}
 use Rattle.station.specs.Rules.{waiting, startedWith, other, started, crashed, joined, knowing, trusting, heard, expired, slotted}
-use Rattle.fit.specs.Fit.{flight, fit, timeoutsAt, fitStart, fitCrash, fitExpire, fitMessage, fitHear, fitSlot}
+use Rattle.fit.specs.Fit.{flight, ranksIn, fit, timeoutsAt, fitStart, fitCrash, fitExpire, fitMessage, fitHear, fitSlot}
 use Rattle.station.specs.Limits.{mostStarts, longest}
 use Rattle.station.specs.declared.Station.{Station}
 use Rattle.fit.proofs.Between.{start-of, crash-of}
-use Rattle.station.proofs.Candidates.{keyOf}
+use Rattle.station.proofs.Candidates.{Ranked, keyOf}
 use Rattle.fit.proofs.Down.{down-fits}
 use Rattle.station.proofs.Elimination.{started-elim, crashed-elim, heard-elim, expired-elim, slotted-elim}
 use Rattle.fit.proofs.Handed.{JustSet, InTick, Before, Hearing, Expiring, Unended, Ended, Slotting, message-of, hearing-of, of-hearing, expiring-of, of-expiring, slotting-of, of-slotting}
-use Rattle.fit.proofs.Tests.{Ranges, Kept, Counts, Timeouts, Alive, Timer, Standing, fit-ranges, fit-of, of-fit}
+use Rattle.fit.proofs.Tests.{Ranges, Kept, Counts, Timeouts, Alive, Timer, Standing, ranked-of, fit-ranges, fit-of, of-fit}
 use Rattle.station.proofs.Vectors.{inside, other-of, joined-at}
 
 -- the timeout of a leader that is another station
@@ -37,27 +37,28 @@ higher me n period high high′ t h f =
     record { others = λ k l o. (f .others k l o .0, (let x : getD t k 0 ≤ high = f .others k l o .1 in omega arith)); rest = f .rest }
 
 -- a station in a tick, between two messages: its timer is that of the tick before, or was set in this tick
-pub record During (me n period tick : ℕ) (s : Station) : Type 0 where
+pub record During (ranks : List ℕ) (me n period tick : ℕ) (s : Station) : Type 0 where
   pub values : InTick me n period tick
+  pub ranked : ranksIn n ranks ≡ true
   pub kept : Kept n (s .incarnation) (s .stable)
   pub stands : Standing me n period (tick - 1) s
-  pub timer : Timer me (tick - 1) s ⊎ JustSet me tick s
+  pub timer : Timer me (tick - 1) s ⊎ JustSet ranks me tick s
 
-module _ (me n period tick : ℕ) (s : Station) where
+module _ (ranks : List ℕ) (me n period tick : ℕ) (s : Station) where
   -- it begins with a station that fits the end of the tick before
-  pub fit-during : 1 ≤ tick → tick ≤ 1000000 → fit me n period (tick - 1) s ≡ true → s .up ≡ true → During me n period tick s
-  fit-during low high e u =
+  pub fit-during : 1 ≤ tick → tick ≤ 1000000 → ranksIn n ranks ≡ true → fit me n period (tick - 1) s ≡ true → s .up ≡ true → During ranks me n period tick s
+  fit-during low high i e u =
       let (r, k) = fit-ranges me n period (tick - 1) s e in
       let (st, t) = fit-of me n period (tick - 1) s e u in
-      record { values = record { tick-low = low; tick-high = high; given = r }; kept = k; stands = st; timer = inl t }
+      record { values = record { tick-low = low; tick-high = high; given = r }; ranked = i; kept = k; stands = st; timer = inl t }
 
   -- so a first message can be heard
-  pub fit-hears : (q : ℕ) (v : List ℕ) → 1 ≤ tick → tick ≤ 1000000 → fit me n period (tick - 1) s ≡ true → s .up ≡ true → fitMessage me n q v ≡ true → fitHear me n period tick q v s ≡ true
-  fit-hears q v low high e u m =
+  pub fit-hears : (q : ℕ) (v : List ℕ) → 1 ≤ tick → tick ≤ 1000000 → ranksIn n ranks ≡ true → fit me n period (tick - 1) s ≡ true → s .up ≡ true → fitMessage me n q v ≡ true → fitHear ranks me n period tick q v s ≡ true
+  fit-hears q v low high i e u m =
       let (r, k) = fit-ranges me n period (tick - 1) s e in
       let (st, t) = fit-of me n period (tick - 1) s e u in
-      of-hearing me n period tick q v s
-      (record { values = record { tick-low = low; tick-high = high; given = r }; kept = k; message = message-of me n q v m; stands = st; timer = inl t })
+      of-hearing ranks me n period tick q v s
+      (record { values = record { tick-low = low; tick-high = high; given = r }; ranked = i; kept = k; message = message-of me n q v m; stands = st; timer = inl t })
 
 -- joined counts are in range, and the own entry does not fall
 joined-counts : (n : ℕ) (v w k : List ℕ) → joined v w ≡ k → Counts n v → Counts n w → Counts n k
@@ -70,15 +71,18 @@ abbrev pub Next : ℕ → ℕ → ℕ → ℕ → Type 0
 Next period tick q q′ = (q < q′) ⊎ ((q ≡ q′) × (period ≤ min (tick - 1) flight))
 
 -- a timer that was set in this tick runs for another station
-pub set-other : (me tick : ℕ) (s : Station) → JustSet me tick s → s .leader ≢ me
-set-other me tick s j e =
-    let x : keyOf (s .recovered) (s .leader) < keyOf (s .recovered) me = j .first in
-    let y : keyOf (s .recovered) (s .leader) ≡ keyOf (s .recovered) me = ap (λ z. keyOf (s .recovered) z) e in
+pub set-other : (ranks : List ℕ) (me tick : ℕ) (s : Station) → JustSet ranks me tick s → s .leader ≢ me
+set-other ranks me tick s j e =
+    let x : keyOf ranks (s .recovered) (s .leader) < keyOf ranks (s .recovered) me = j .first in
+    let y : keyOf ranks (s .recovered) (s .leader) ≡ keyOf ranks (s .recovered) me = ap (λ z. keyOf ranks (s .recovered) z) e in
     omega arith
 
-module _ (me n period tick q : ℕ) (v : List ℕ) (s : Station) (h : Hearing me n period tick q v s) where
+module _ (ranks : List ℕ) (me n period tick q : ℕ) (v : List ℕ) (s : Station) (h : Hearing ranks me n period tick q v s) where
   abbrev given : Ranges me n period
   given = h .values .given
+
+  ranked : Ranked ranks
+  ranked = ranked-of n ranks (h .ranked)
 
   -- what hearing changes: counts, leader and timer
   stands-with : (leader timer : ℕ) (k : List ℕ) → joined (s .recovered) v ≡ k → 1 ≤ leader → leader ≤ n → Standing me n period (tick - 1) (trusting leader timer (knowing k s))
@@ -101,38 +105,38 @@ module _ (me n period tick q : ℕ) (v : List ℕ) (s : Station) (h : Hearing me
 
   -- hearing leaves a station that stands, whose timer is the old one or was set in this tick by q or before it
   abbrev After : Station → Type 0
-  After x = Kept n (x .incarnation) (x .stable) × Standing me n period (tick - 1) x × (Timer me (tick - 1) x ⊎ (JustSet me tick x × ((x .leader ≡ q) ⊎ Before period tick q x)))
+  After x = Kept n (x .incarnation) (x .stable) × Standing me n period (tick - 1) x × (Timer me (tick - 1) x ⊎ (JustSet ranks me tick x × ((x .leader ≡ q) ⊎ Before period tick q x)))
 
-  heard-after : After (heard me q v tick s)
+  heard-after : After (heard ranks me q v tick s)
   heard-after =
       let k : List ℕ = joined (s .recovered) v in
-      heard-elim After me q tick v s k (omega (arith, given .me-high, given .n-high)) (omega (arith, h .message .high, given .n-high)) (omega (arith, h .stands .living .leader-high, given .n-high)) refl
+      heard-elim After ranks me q tick v s k ranked (omega (arith, given .me-high, given .n-high)) (omega (arith, h .message .high, given .n-high)) (omega (arith, h .stands .living .leader-high, given .n-high)) refl
       (λ a b.
       let ne : q ≢ me = h .message .other in
-      (h .kept, stands-with q (tick + entry (s .timeouts) q) k refl (h .message .low) (h .message .high), inr (record { ends = refl; first = omega (arith, given .me-high, given .n-high, h .message .high) }, inl refl)))
+      (h .kept, stands-with q (tick + entry (s .timeouts) q) k refl (h .message .low) (h .message .high), inr (record { ends = refl; first = omega (arith, given .me-high, given .n-high, h .message .high, ranked q (omega (arith, h .message .high, given .n-high)), ranked me (omega (arith, given .me-high, given .n-high))) }, inl refl)))
       (λ a b. (h .kept, stands-with me 0 k refl (given .me-low) (given .me-high), inl (record { off = λ e. refl; on = λ ne. absurd (ne refl) })))
       (λ a b. (h .kept, stands-with (s .leader) (s .timer) k refl (h .stands .living .leader-low) (h .stands .living .leader-high), stays k b (h .timer)))
     where
-      stays : (k : List ℕ) → keyOf k (s .leader) ≤ keyOf k me → Timer me (tick - 1) s ⊎ (JustSet me tick s × Before period tick q s) → Timer me (tick - 1) (knowing k s) ⊎ (JustSet me tick (knowing k s) × ((s .leader ≡ q) ⊎ Before period tick q s))
+      stays : (k : List ℕ) → keyOf ranks k (s .leader) ≤ keyOf ranks k me → Timer me (tick - 1) s ⊎ (JustSet ranks me tick s × Before period tick q s) → Timer me (tick - 1) (knowing k s) ⊎ (JustSet ranks me tick (knowing k s) × ((s .leader ≡ q) ⊎ Before period tick q s))
       stays k b (inl t) = inl (record { off = t .off; on = t .on })
       stays k b (inr t) =
-          let ne : s .leader ≢ me = set-other me tick s (t .0) in
-          inr (record { ends = t .0 .ends; first = omega (arith, given .me-high, given .n-high, h .stands .living .leader-high) }, inr (t .1))
+          let ne : s .leader ≢ me = set-other ranks me tick s (t .0) in
+          inr (record { ends = t .0 .ends; first = omega (arith, given .me-high, given .n-high, h .stands .living .leader-high, ranked (s .leader) (omega (arith, h .stands .living .leader-high, given .n-high)), ranked me (omega (arith, given .me-high, given .n-high))) }, inr (t .1))
 
   -- so the tick goes on from there
-  pub heard-during : During me n period tick (heard me q v tick s)
-  heard-during = let (k, st, t) = heard-after in record { values = h .values; kept = k; stands = st; timer = ran t }
+  pub heard-during : During ranks me n period tick (heard ranks me q v tick s)
+  heard-during = let (k, st, t) = heard-after in record { values = h .values; ranked = h .ranked; kept = k; stands = st; timer = ran t }
     where
-      ran : Timer me (tick - 1) (heard me q v tick s) ⊎ (JustSet me tick (heard me q v tick s) × ((heard me q v tick s .leader ≡ q) ⊎ Before period tick q (heard me q v tick s))) → Timer me (tick - 1) (heard me q v tick s) ⊎ JustSet me tick (heard me q v tick s)
+      ran : Timer me (tick - 1) (heard ranks me q v tick s) ⊎ (JustSet ranks me tick (heard ranks me q v tick s) × ((heard ranks me q v tick s .leader ≡ q) ⊎ Before period tick q (heard ranks me q v tick s))) → Timer me (tick - 1) (heard ranks me q v tick s) ⊎ JustSet ranks me tick (heard ranks me q v tick s)
       ran (inl t) = inl t
       ran (inr t) = inr (t .0)
 
 -- and the next message can be heard
-pub hear-keeps : (me n period tick q q′ : ℕ) (v v′ : List ℕ) (s : Station) → fitHear me n period tick q v s ≡ true → Next period tick q q′ → fitMessage me n q′ v′ ≡ true → fitHear me n period tick q′ v′ (heard me q v tick s) ≡ true
-hear-keeps me n period tick q q′ v v′ s e nx m =
-    let h : Hearing me n period tick q v s = hearing-of me n period tick q v s e in
-    let (k, st, t) = heard-after me n period tick q v s h in
-    of-hearing me n period tick q′ v′ (heard me q v tick s) (record { values = h .values; kept = k; message = message-of me n q′ v′ m; stands = st; timer = ran t })
+pub hear-keeps : (ranks : List ℕ) (me n period tick q q′ : ℕ) (v v′ : List ℕ) (s : Station) → fitHear ranks me n period tick q v s ≡ true → Next period tick q q′ → fitMessage me n q′ v′ ≡ true → fitHear ranks me n period tick q′ v′ (heard ranks me q v tick s) ≡ true
+hear-keeps ranks me n period tick q q′ v v′ s e nx m =
+    let h : Hearing ranks me n period tick q v s = hearing-of ranks me n period tick q v s e in
+    let (k, st, t) = heard-after ranks me n period tick q v s h in
+    of-hearing ranks me n period tick q′ v′ (heard ranks me q v tick s) (record { values = h .values; ranked = h .ranked; kept = k; message = message-of me n q′ v′ m; stands = st; timer = ran t })
   where
     later : (x : Station) → (x .leader ≡ q) ⊎ Before period tick q x → Next period tick q q′ → Before period tick q′ x
     later x (inl a) (inl b) = inl (omega arith)
@@ -142,13 +146,13 @@ hear-keeps me n period tick q q′ v v′ s e nx m =
     later x (inr (inr a)) (inl b) = inl (let y : x .leader ≡ q = a .0 in omega arith)
     later x (inr (inr a)) (inr b) = inr (a .0 ∙ b .0, a .1)
 
-    ran : Timer me (tick - 1) (heard me q v tick s) ⊎ (JustSet me tick (heard me q v tick s) × ((heard me q v tick s .leader ≡ q) ⊎ Before period tick q (heard me q v tick s))) → Timer me (tick - 1) (heard me q v tick s) ⊎ (JustSet me tick (heard me q v tick s) × Before period tick q′ (heard me q v tick s))
+    ran : Timer me (tick - 1) (heard ranks me q v tick s) ⊎ (JustSet ranks me tick (heard ranks me q v tick s) × ((heard ranks me q v tick s .leader ≡ q) ⊎ Before period tick q (heard ranks me q v tick s))) → Timer me (tick - 1) (heard ranks me q v tick s) ⊎ (JustSet ranks me tick (heard ranks me q v tick s) × Before period tick q′ (heard ranks me q v tick s))
     ran (inl t) = inl t
-    ran (inr t) = inr (t .0, later (heard me q v tick s) (t .1) nx)
+    ran (inr t) = inr (t .0, later (heard ranks me q v tick s) (t .1) nx)
 
-module _ (me n period tick : ℕ) (s : Station) where
+module _ (ranks : List ℕ) (me n period tick : ℕ) (s : Station) where
   -- a timer that has not ended runs on
-  runs : Ranges me n period → Alive me n s → (high : ℕ) → Timeouts me n period high (s .timeouts) → (Timer me (tick - 1) s × (s .timer ≢ tick)) ⊎ JustSet me tick s → Timer me tick s
+  runs : Ranges me n period → Alive me n s → (high : ℕ) → Timeouts me n period high (s .timeouts) → (Timer me (tick - 1) s × (s .timer ≢ tick)) ⊎ JustSet ranks me tick s → Timer me tick s
   runs r l high t (inl x) =
       record {
         off = x .0 .off;
@@ -156,37 +160,37 @@ module _ (me n period tick : ℕ) (s : Station) where
       }
   runs r l high t (inr j) =
       record {
-        off = λ e. absurd (set-other me tick s j e);
+        off = λ e. absurd (set-other ranks me tick s j e);
         on = λ ne. (let x : period ≤ entry (s .timeouts) (s .leader) = leader-timeout me n period high s r l t ne .0 in (omega (arith, j .ends, r .period-low), omega (arith, j .ends)));
       }
 
   -- a timer that is not due now has not ended
-  unended : During me n period tick s → s .timer ≢ tick → (Timer me (tick - 1) s × (s .timer ≢ tick)) ⊎ JustSet me tick s
+  unended : During ranks me n period tick s → s .timer ≢ tick → (Timer me (tick - 1) s × (s .timer ≢ tick)) ⊎ JustSet ranks me tick s
   unended d ne = go (d .timer)
     where
-      go : Timer me (tick - 1) s ⊎ JustSet me tick s → (Timer me (tick - 1) s × (s .timer ≢ tick)) ⊎ JustSet me tick s
+      go : Timer me (tick - 1) s ⊎ JustSet ranks me tick s → (Timer me (tick - 1) s × (s .timer ≢ tick)) ⊎ JustSet ranks me tick s
       go (inl t) = inl (t, ne)
       go (inr t) = inr t
 
   -- a timer that is due can end: it was not set in this tick
-  pub during-expires : During me n period tick s → s .timer ≡ tick → fitExpire me n period tick s ≡ true
+  pub during-expires : During ranks me n period tick s → s .timer ≡ tick → fitExpire me n period tick s ≡ true
   during-expires d e = of-expiring me n period tick s (record { values = d .values; kept = d .kept; stands = d .stands; timer = go (d .timer); now = e })
     where
-      go : Timer me (tick - 1) s ⊎ JustSet me tick s → Timer me (tick - 1) s
+      go : Timer me (tick - 1) s ⊎ JustSet ranks me tick s → Timer me (tick - 1) s
       go (inl t) = t
       go (inr j) =
-          let ne : s .leader ≢ me = set-other me tick s j in
+          let ne : s .leader ≢ me = set-other ranks me tick s j in
           let z : period ≤ entry (s .timeouts) (s .leader) = leader-timeout me n period (longest (tick - 1)) s (d .values .given) (d .stands .living) (d .stands .timeouts) ne .0 in
           absurd (omega (arith, j .ends, d .values .given .period-low))
 
   -- a send chance that is due can come
-  pub during-slots : During me n period tick s → s .timer ≢ tick → s .slot ≡ tick → fitSlot me n period tick s ≡ true
+  pub during-slots : During ranks me n period tick s → s .timer ≢ tick → s .slot ≡ tick → fitSlot ranks me n period tick s ≡ true
   during-slots d ne e =
-      of-slotting me n period tick s
-      (record { values = d .values; kept = d .kept; living = d .stands .living; now = e; timer = inl (record { timeouts = d .stands .timeouts; timer = unended d ne }) })
+      of-slotting ranks me n period tick s
+      (record { values = d .values; ranked = d .ranked; kept = d .kept; living = d .stands .living; now = e; timer = inl (record { timeouts = d .stands .timeouts; timer = unended d ne }) })
 
   -- and where nothing is due the station fits the end of the tick
-  pub during-fits : During me n period tick s → s .timer ≢ tick → s .slot ≢ tick → fit me n period tick s ≡ true
+  pub during-fits : During ranks me n period tick s → s .timer ≢ tick → s .slot ≢ tick → fit me n period tick s ≡ true
   during-fits d ne ns =
       of-fit me n period tick s (d .values .given) (d .kept)
       (record {
@@ -198,9 +202,9 @@ module _ (me n period tick : ℕ) (s : Station) where
       (runs (d .values .given) (d .stands .living) (longest (tick - 1)) (d .stands .timeouts) (unended d ne))
 
   -- a send chance leaves a station that fits the end of the tick
-  pub slot-keeps : fitSlot me n period tick s ≡ true → fit me n period tick (slotted period tick s) ≡ true
+  pub slot-keeps : fitSlot ranks me n period tick s ≡ true → fit me n period tick (slotted period tick s) ≡ true
   slot-keeps e =
-      let x : Slotting me n period tick s = slotting-of me n period tick s e in
+      let x : Slotting ranks me n period tick s = slotting-of ranks me n period tick s e in
       let r : Ranges me n period = x .values .given in
       let l : Alive me n s = x .living in
       slotted-elim (λ y. fit me n period tick y ≡ true) period tick s
@@ -214,11 +218,11 @@ module _ (me n period tick : ℕ) (s : Station) where
       })
       (let t : Timer me tick s = timer r l (x .timer) in record { off = t .off; on = t .on }))
     where
-      highest : Unended me n period tick s ⊎ Ended me n period tick s → Timeouts me n period (longest tick) (s .timeouts)
+      highest : Unended ranks me n period tick s ⊎ Ended me n period tick s → Timeouts me n period (longest tick) (s .timeouts)
       highest (inl u) = higher me n period (longest (tick - 1)) (longest tick) (s .timeouts) (omega arith) (u .timeouts)
       highest (inr u) = u .timeouts
 
-      timer : Ranges me n period → Alive me n s → Unended me n period tick s ⊎ Ended me n period tick s → Timer me tick s
+      timer : Ranges me n period → Alive me n s → Unended ranks me n period tick s ⊎ Ended me n period tick s → Timer me tick s
       timer r l (inl u) = runs r l (longest (tick - 1)) (u .timeouts) (u .timer)
       timer r l (inr u) = record { off = λ i. u .stopped; on = λ ne. absurd (ne (u .self)) }
 
@@ -287,14 +291,14 @@ module _ (me n period tick : ℕ) (s : Station) (x : Expiring me n period tick s
       })
       (stopped t tick))
 
-  pub expired-slots : s .slot ≡ tick → fitSlot me n period tick (expired me s) ≡ true
-  expired-slots es =
-      expired-elim (λ y. fitSlot me n period tick y ≡ true) me s in-timeouts
+  pub expired-slots : (ranks : List ℕ) → ranksIn n ranks ≡ true → s .slot ≡ tick → fitSlot ranks me n period tick (expired me s) ≡ true
+  expired-slots ranks i es =
+      expired-elim (λ y. fitSlot ranks me n period tick y ≡ true) me s in-timeouts
       (λ t size e same.
-      of-slotting me n period tick (waiting me 0 t s)
-      (record { values = x .values; kept = x .kept; living = living-with t; now = es; timer = either-way t e same (decLe (entry (s .timeouts) (s .leader) + 1) (longest (tick - 1))) }))
+      of-slotting ranks me n period tick (waiting me 0 t s)
+      (record { values = x .values; ranked = i; kept = x .kept; living = living-with t; now = es; timer = either-way t e same (decLe (entry (s .timeouts) (s .leader) + 1) (longest (tick - 1))) }))
     where
-      either-way : (t : List ℕ) → entry t (s .leader) ≡ entry (s .timeouts) (s .leader) + 1 → ((k : ℕ) → k ≢ s .leader - 1 → getD t k 0 ≡ getD (s .timeouts) k 0) → Dec (entry (s .timeouts) (s .leader) + 1 ≤ longest (tick - 1)) → Unended me n period tick (waiting me 0 t s) ⊎ Ended me n period tick (waiting me 0 t s)
+      either-way : (t : List ℕ) → entry t (s .leader) ≡ entry (s .timeouts) (s .leader) + 1 → ((k : ℕ) → k ≢ s .leader - 1 → getD t k 0 ≡ getD (s .timeouts) k 0) → Dec (entry (s .timeouts) (s .leader) + 1 ≤ longest (tick - 1)) → Unended ranks me n period tick (waiting me 0 t s) ⊎ Ended me n period tick (waiting me 0 t s)
       either-way t e same (yes room) =
           inl (record { timeouts = raised (longest (tick - 1)) t (omega arith) room e same; timer = inl (stopped t (tick - 1), (λ z. omega (arith, x .values .tick-low))) })
       either-way t e same (no full) =
@@ -312,8 +316,8 @@ module _ (me n period tick : ℕ) (s : Station) (x : Expiring me n period tick s
 pub expire-fits : (me n period tick : ℕ) (s : Station) → fitExpire me n period tick s ≡ true → s .slot ≢ tick → fit me n period tick (expired me s) ≡ true
 expire-fits me n period tick s e ns = expired-fits me n period tick s (expiring-of me n period tick s e) ns
 
-pub expire-slots : (me n period tick : ℕ) (s : Station) → fitExpire me n period tick s ≡ true → s .slot ≡ tick → fitSlot me n period tick (expired me s) ≡ true
-expire-slots me n period tick s e es = expired-slots me n period tick s (expiring-of me n period tick s e) es
+pub expire-slots : (ranks : List ℕ) (me n period tick : ℕ) (s : Station) → ranksIn n ranks ≡ true → fitExpire me n period tick s ≡ true → s .slot ≡ tick → fitSlot ranks me n period tick (expired me s) ≡ true
+expire-slots ranks me n period tick s i e es = expired-slots me n period tick s (expiring-of me n period tick s e) ranks i es
 
 module _ (me n period tick : ℕ) (s : Station) where
   -- a start leaves a station that fits

@@ -21,9 +21,9 @@ module _ (me n period tick : ℕ) (s : Station) where
       let (r, k) = fit-ranges me n period tick s f in
       (r .me-low, omega (arith, r .me-high, r .n-high), r .period-high, h)
 
-  pub hear-safe : (q : ℕ) (v : List ℕ) → fitHear me n period tick q v s ≡ true → (tick ≤ lastTick) × (entry (s .timeouts) q ≤ longest lastTick)
-  hear-safe q v e =
-      let h : Hearing me n period tick q v s = hearing-of me n period tick q v s e in
+  pub hear-safe : (ranks : List ℕ) (q : ℕ) (v : List ℕ) → fitHear ranks me n period tick q v s ≡ true → (tick ≤ lastTick) × (entry (s .timeouts) q ≤ longest lastTick)
+  hear-safe ranks q v e =
+      let h : Hearing ranks me n period tick q v s = hearing-of ranks me n period tick q v s e in
       let (low, high) = h .stands .timeouts .others (q - 1) (omega (arith, h .message .low, h .message .high, h .values .given .n-high)) (other-of me n q (h .message .low) (h .message .high) (h .message .other)) in
       (h .values .tick-high, omega (arith, h .values .tick-high))
 
@@ -32,5 +32,5 @@ module _ (me n period tick : ℕ) (s : Station) where
       let x : Expiring me n period tick s = expiring-of me n period tick s e in
       (x .stands .living .leader-low, omega (arith, x .stands .living .leader-high, x .values .given .n-high), omega (arith, timeout-was me n period tick s x .1, x .values .tick-high))
 
-  pub slot-safe : fitSlot me n period tick s ≡ true → (period ≤ 255) × (tick ≤ lastTick)
-  slot-safe e = let x : Slotting me n period tick s = slotting-of me n period tick s e in (x .values .given .period-high, x .values .tick-high)
+  pub slot-safe : (ranks : List ℕ) → fitSlot ranks me n period tick s ≡ true → (period ≤ 255) × (tick ≤ lastTick)
+  slot-safe ranks e = let x : Slotting ranks me n period tick s = slotting-of ranks me n period tick s e in (x .values .given .period-high, x .values .tick-high)

@@ -3,8 +3,9 @@ use mathlib.Core.Path.{_≡_, refl, sym, ap, _∙_}
 use mathlib.Core.Logic.{_≢_}
 use mathlib.Core.List.{List}
 use mathlib.Core.Bool.{Bool, true, false, cond, _&&_}
-use Prim.Native.Nat.{ℕ, _+_, _<_, _≤_}
+use Prim.Native.Nat.{ℕ, _+_, _-_, _<_, _≤_}
 use native.Mathlib.Decide.{ℕ-discrete}
+use native.Mathlib.Omega.{arith}
 use lib.ListN.{getD}
 use lib.Dec.{leb, ltb, eqb}
 use borrow.Author.Tests.{ltb-true, leb-true, eqb-true, lt-ltb, le-leb, eq-eqb, ne-eqb}
@@ -12,9 +13,10 @@ use Rattle.lists.proofs.Bools.{both, three, five}
 use Rattle.lists.proofs.Test.{all-at, all-of}
 use Rattle.station.specs.Order.{entry}
 use Rattle.station.specs.Rules.{other}
-use Rattle.fit.specs.Fit.{within, ranges, keptIn, cleared, countIn, countsIn, timeoutIn, timeoutsIn, alive, slotIn, timerIn, standing, fit}
-use Rattle.station.specs.Limits.{mostStarts, longest}
+use Rattle.fit.specs.Fit.{within, ranges, keptIn, cleared, countIn, countsIn, rankIn, ranksIn, timeoutIn, timeoutsIn, alive, slotIn, timerIn, standing, fit}
+use Rattle.station.specs.Limits.{mostStarts, mostRank, longest}
 use Rattle.station.specs.declared.Station.{Station}
+use Rattle.station.proofs.Candidates.{Ranked}
 
 pub record Ranges (me n period : ℕ) : Type 0 where
   pub n-low : 2 ≤ n
@@ -74,6 +76,22 @@ module _ (n : ℕ) (v : List ℕ) where
   pub of-counts : Counts n v → countsIn n v ≡ true
   unfolding countsIn
   of-counts f = all-of 8 (λ k. countIn n k (getD v k 0)) (λ k h. le-leb (getD v k 0) (cond (ltb k n) mostStarts 0) (f k h))
+
+-- ranks: at most 7, and zero beyond n
+pub ranks-of : (n : ℕ) (ranks : List ℕ) → ranksIn n ranks ≡ true → (k : ℕ) → k < 8 → getD ranks k 0 ≤ cond (ltb k n) mostRank 0
+unfolding ranksIn
+ranks-of n ranks e k h = leb-true (getD ranks k 0) (cond (ltb k n) mostRank 0) (all-at 8 k (λ k. rankIn n k (getD ranks k 0)) e h)
+
+pub of-ranks : (n : ℕ) (ranks : List ℕ) → ((k : ℕ) → k < 8 → getD ranks k 0 ≤ cond (ltb k n) mostRank 0) → ranksIn n ranks ≡ true
+unfolding ranksIn
+of-ranks n ranks f = all-of 8 (λ k. rankIn n k (getD ranks k 0)) (λ k h. le-leb (getD ranks k 0) (cond (ltb k n) mostRank 0) (f k h))
+
+pub ranked-of : (n : ℕ) (ranks : List ℕ) → ranksIn n ranks ≡ true → Ranked ranks
+ranked-of n ranks e p h = go (ltb (p - 1) n) (ranks-of n ranks e (p - 1) (omega arith))
+  where
+    go : (b : Bool) → entry ranks p ≤ cond b mostRank 0 → entry ranks p ≤ 7
+    go true x = x
+    go false x = omega arith
 
 -- timeouts: from the period to the highest for the others, zero elsewhere
 pub record Timeouts (me n period high : ℕ) (t : List ℕ) : Type 0 where

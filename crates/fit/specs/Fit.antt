@@ -6,7 +6,7 @@ use lib.ListN.{getD}
 use lib.Dec.{leb, ltb, eqb}
 use Rattle.lists.specs.Count.{countTo}
 use Rattle.lists.specs.Test.{allTo}
-use Rattle.station.specs.Limits.{lastTick, mostStarts, longest}
+use Rattle.station.specs.Limits.{lastTick, mostStarts, mostRank, longest}
 use Rattle.station.specs.Order.{entry, precedes}
 use Rattle.station.specs.Rules.{other}
 use Rattle.station.specs.declared.Station.{Station}
@@ -37,6 +37,13 @@ countIn n k x = leb x (cond (ltb k n) mostStarts 0)
 
 unfoldable pub countsIn : ℕ → List ℕ → Bool
 countsIn n v = allTo 8 (λ k. countIn n k (getD v k 0))
+
+-- ranks: at most 7, and zero beyond n
+abbrev pub rankIn : ℕ → ℕ → ℕ → Bool
+rankIn n k x = leb x (cond (ltb k n) mostRank 0)
+
+unfoldable pub ranksIn : ℕ → List ℕ → Bool
+ranksIn n ranks = allTo 8 (λ k. rankIn n k (getD ranks k 0))
 
 -- timeouts: from the period to the highest for each other station, zero for itself and beyond n
 abbrev pub timeoutIn : ℕ → ℕ → ℕ → ℕ → ℕ → ℕ → Bool
@@ -74,8 +81,8 @@ fit me n period tick s =
     ranges me n period && keptIn n s && cond (s .up) (standing me n period tick s && timerIn me tick s) (cleared s)
 
 -- the timer was set in this very tick: the leader was heard, and it is before the station
-unfoldable pub justSet : ℕ → ℕ → Station → Bool
-justSet me tick s = eqb (s .timer) (tick + entry (s .timeouts) (s .leader)) && precedes (s .recovered) (s .leader) me
+unfoldable pub justSet : List ℕ → ℕ → ℕ → Station → Bool
+justSet ranks me tick s = eqb (s .timer) (tick + entry (s .timeouts) (s .leader)) && precedes ranks (s .recovered) (s .leader) me
 
 -- how many timeouts are at a value
 unfoldable pub timeoutsAt : ℕ → List ℕ → ℕ
@@ -93,6 +100,10 @@ fitCrash me n period tick s = fitStart me n period tick s && s .up
 unfoldable pub fitExpire : ℕ → ℕ → ℕ → ℕ → Station → Bool
 fitExpire me n period tick s = within 1 tick lastTick && fit me n period (tick - 1) s && s .up && eqb (s .timer) tick
 
+-- the values of a tick in which candidates are compared
+unfoldable pub inTick : List ℕ → ℕ → ℕ → ℕ → ℕ → Bool
+inTick ranks me n period tick = within 1 tick lastTick && ranges me n period && ranksIn n ranks
+
 -- a message from another station
 unfoldable pub fitMessage : ℕ → ℕ → ℕ → List ℕ → Bool
 fitMessage me n q v = within 1 q n && not (eqb q me) && countsIn n v
@@ -102,16 +113,16 @@ unfoldable pub heardBefore : ℕ → ℕ → ℕ → Station → Bool
 heardBefore period tick q s = ltb (s .leader) q || (eqb (s .leader) q && leb period (min (tick - 1) flight))
 
 -- handed to hearing LEADER from q, in the tick
-unfoldable pub fitHear : ℕ → ℕ → ℕ → ℕ → ℕ → List ℕ → Station → Bool
-fitHear me n period tick q v s =
-    within 1 tick lastTick && ranges me n period && keptIn n s && fitMessage me n q v && standing me n period (tick - 1) s
-    && (timerIn me (tick - 1) s || (justSet me tick s && heardBefore period tick q s))
+unfoldable pub fitHear : List ℕ → ℕ → ℕ → ℕ → ℕ → ℕ → List ℕ → Station → Bool
+fitHear ranks me n period tick q v s =
+    inTick ranks me n period tick && keptIn n s && fitMessage me n q v && standing me n period (tick - 1) s
+    && (timerIn me (tick - 1) s || (justSet ranks me tick s && heardBefore period tick q s))
 
 -- its timer did not end in this tick: it ends later or is stopped, or was set in this tick
-unfoldable pub unended : ℕ → ℕ → ℕ → ℕ → Station → Bool
-unended me n period tick s =
+unfoldable pub unended : List ℕ → ℕ → ℕ → ℕ → ℕ → Station → Bool
+unended ranks me n period tick s =
     timeoutsIn me n period (longest (tick - 1)) (s .timeouts)
-    && ((timerIn me (tick - 1) s && not (eqb (s .timer) tick)) || justSet me tick s)
+    && ((timerIn me (tick - 1) s && not (eqb (s .timer) tick)) || justSet ranks me tick s)
 
 -- its timer ended in this tick, and raised the timeout to the highest
 unfoldable pub ended : ℕ → ℕ → ℕ → ℕ → Station → Bool
@@ -120,7 +131,7 @@ ended me n period tick s =
     && eqb (timeoutsAt (longest tick) (s .timeouts)) 1
 
 -- handed to a send chance, in the tick
-unfoldable pub fitSlot : ℕ → ℕ → ℕ → ℕ → Station → Bool
-fitSlot me n period tick s =
-    within 1 tick lastTick && ranges me n period && keptIn n s && alive me n s && eqb (s .slot) tick
-    && (unended me n period tick s || ended me n period tick s)
+unfoldable pub fitSlot : List ℕ → ℕ → ℕ → ℕ → ℕ → Station → Bool
+fitSlot ranks me n period tick s =
+    inTick ranks me n period tick && keptIn n s && alive me n s && eqb (s .slot) tick
+    && (unended ranks me n period tick s || ended me n period tick s)

@@ -4,7 +4,7 @@ ghost use mathlib.Core.Bool.{cond};
 ghost use Prim.Native.Nat.{_+_, _-_, _<_, _≤_, min};
 ghost use lib.Dec.{eqb};
 ghost use Rattle.station.specs.Rules.{other};
-ghost use Rattle.fit.specs.Fit.{within, ranges, keptIn, cleared, countIn, countsIn, timeoutIn, timeoutsIn, alive, slotIn, timerIn, standing, fit, justSet, timeoutsAt, fitStart, fitCrash, fitExpire, fitMessage, heardBefore, fitHear, unended, ended, fitSlot};
+ghost use Rattle.fit.specs.Fit.{within, ranges, keptIn, cleared, countIn, countsIn, rankIn, ranksIn, timeoutIn, timeoutsIn, alive, slotIn, timerIn, standing, fit, justSet, timeoutsAt, fitStart, fitCrash, fitExpire, inTick, fitMessage, heardBefore, fitHear, unended, ended, fitSlot};
 ghost use Rattle.station.specs.Limits.{lastTick, longest};
 use station::LAST_TICK;
 use station::Station;
@@ -81,6 +81,25 @@ pub fn counts_in(n: u8, v: [u16; 8]) -> bool
 {
     for k in 0..8 {
         if !count_in(n, k, v[k]) {
+            return false;
+        }
+    }
+    true
+}
+
+// Whether a rank is in range at place k.
+fn rank_in(n: u8, k: usize, x: u8) -> bool
+    ensures { λ r. ⌜ r ≡ rankIn n k x ⌝ }
+{
+    if k < n as usize { x <= 7 } else { x <= 0 }
+}
+
+// Whether every rank is in range.
+pub fn ranks_in(n: u8, ranks: [u8; 8]) -> bool
+    ensures { λ r. ⌜ r ≡ ranksIn n ranks ⌝ }
+{
+    for k in 0..8 {
+        if !rank_in(n, k, ranks[k]) {
             return false;
         }
     }
@@ -173,14 +192,14 @@ pub fn fit(me: u8, n: u8, period: u32, tick: u32, s: Station) -> bool
 }
 
 // Whether the timer was set in this very tick.
-fn just_set(me: u8, tick: u32, s: Station) -> bool
-    ensures { λ r. ⌜ r ≡ justSet me tick s ⌝ }
+fn just_set(ranks: [u8; 8], me: u8, tick: u32, s: Station) -> bool
+    ensures { λ r. ⌜ r ≡ justSet ranks me tick s ⌝ }
 {
     let t = s.timeouts;
     let v = s.recovered;
     let end = wide(tick) + wide(timeout_of(t, s.leader));
     let timer = wide(s.timer);
-    (timer == end) & precedes(v, s.leader, me)
+    (timer == end) & precedes(ranks, v, s.leader, me)
 }
 
 // How many timeouts are at a value.
@@ -227,6 +246,13 @@ pub fn fit_expire(me: u8, n: u8, period: u32, tick: u32, s: Station) -> bool
     in_run(tick) & fit(me, n, period, previous(tick), s) & s.up & (s.timer == tick)
 }
 
+// Whether a tick in which candidates are compared can be given these values.
+fn in_tick(ranks: [u8; 8], me: u8, n: u8, period: u32, tick: u32) -> bool
+    ensures { λ r. ⌜ r ≡ inTick ranks me n period tick ⌝ }
+{
+    in_run(tick) & ranges(me, n, period) & ranks_in(n, ranks)
+}
+
 // Whether a message can be another station's.
 fn fit_message(me: u8, n: u8, q: u8, v: [u16; 8]) -> bool
     ensures { λ r. ⌜ r ≡ fitMessage me n q v ⌝ }
@@ -243,22 +269,32 @@ fn heard_before(period: u32, tick: u32, q: u8, s: Station) -> bool
 }
 
 // Whether hearing LEADER can be handed these values.
-pub fn fit_hear(me: u8, n: u8, period: u32, tick: u32, q: u8, v: [u16; 8], s: Station) -> bool
-    ensures { λ r. ⌜ r ≡ fitHear me n period tick q v s ⌝ }
+pub fn fit_hear(
+    ranks: [u8; 8],
+    me: u8,
+    n: u8,
+    period: u32,
+    tick: u32,
+    q: u8,
+    v: [u16; 8],
+    s: Station,
+) -> bool
+    ensures { λ r. ⌜ r ≡ fitHear ranks me n period tick q v s ⌝ }
 {
-    let kept = in_run(tick) & ranges(me, n, period) & kept_in(n, s) & fit_message(me, n, q, v);
+    let kept = in_tick(ranks, me, n, period, tick) & kept_in(n, s) & fit_message(me, n, q, v);
     let t = previous(tick);
-    let timer = timer_in(me, t, s) | (just_set(me, tick, s) & heard_before(period, tick, q, s));
+    let timer = timer_in(me, t, s)
+        | (just_set(ranks, me, tick, s) & heard_before(period, tick, q, s));
     kept & standing(me, n, period, t, s) & timer
 }
 
 // Whether the timer did not end in this tick.
-fn unended(me: u8, n: u8, period: u32, tick: u32, s: Station) -> bool
-    ensures { λ r. ⌜ r ≡ unended me n period tick s ⌝ }
+fn unended(ranks: [u8; 8], me: u8, n: u8, period: u32, tick: u32, s: Station) -> bool
+    ensures { λ r. ⌜ r ≡ unended ranks me n period tick s ⌝ }
 {
     let t = previous(tick);
     let all = s.timeouts;
-    let timer = (timer_in(me, t, s) & !(s.timer == tick)) | just_set(me, tick, s);
+    let timer = (timer_in(me, t, s) & !(s.timer == tick)) | just_set(ranks, me, tick, s);
     timeouts_in(me, n, period, longest(t), all) & timer
 }
 
@@ -273,10 +309,10 @@ fn ended(me: u8, n: u8, period: u32, tick: u32, s: Station) -> bool
 }
 
 // Whether a send chance can be handed these values.
-pub fn fit_slot(me: u8, n: u8, period: u32, tick: u32, s: Station) -> bool
-    ensures { λ r. ⌜ r ≡ fitSlot me n period tick s ⌝ }
+pub fn fit_slot(ranks: [u8; 8], me: u8, n: u8, period: u32, tick: u32, s: Station) -> bool
+    ensures { λ r. ⌜ r ≡ fitSlot ranks me n period tick s ⌝ }
 {
-    let kept = in_run(tick) & ranges(me, n, period) & kept_in(n, s);
-    let timer = unended(me, n, period, tick, s) | ended(me, n, period, tick, s);
+    let kept = in_tick(ranks, me, n, period, tick) & kept_in(n, s);
+    let timer = unended(ranks, me, n, period, tick, s) | ended(me, n, period, tick, s);
     kept & alive(me, n, s) & (s.slot == tick) & timer
 }

@@ -17,6 +17,7 @@ use Rattle.station.specs.Rules.{waiting, other, joined, trusting, heard, expire
 use Rattle.fit.specs.Fit.{fit, timeoutsAt}
 use Rattle.station.specs.Limits.{longest}
 use Rattle.station.specs.declared.Station.{Station}
+use Rattle.station.proofs.Candidates.{Ranked}
 use Rattle.station.proofs.Elimination.{heard-elim, expired-elim}
 use Rattle.fit.proofs.Handed.{JustSet, InTick, Ended}
 use Rattle.fit.proofs.Tests.{Ranges, Kept, Timeouts, Alive, Standing, of-fit}
@@ -43,9 +44,9 @@ module _ (me n period now : ℕ) (x : Station) (r : Ranges me n period) (st : St
       (record { off = λ e. refl; on = λ ne. absurd (ne refl) })
 
   -- and hearing the leader made it what it is
-  pub leader-heard : JustSet me now x → length (x .recovered) ≡ 8 → heard me (x .leader) (replicate 8 0) now (trusting me 0 x) ≡ x
-  leader-heard j e =
-      heard-elim (λ y. y ≡ x) me (x .leader) now (replicate 8 0) (trusting me 0 x) (x .recovered) (omega (arith, r .me-high, r .n-high)) (omega (arith, st .living .leader-high, r .n-high)) (omega (arith, r .me-high, r .n-high)) (joined-zeros (x .recovered) e)
+  pub leader-heard : (ranks : List ℕ) → Ranked ranks → JustSet ranks me now x → length (x .recovered) ≡ 8 → heard ranks me (x .leader) (replicate 8 0) now (trusting me 0 x) ≡ x
+  leader-heard ranks ranked j e =
+      heard-elim (λ y. y ≡ x) ranks me (x .leader) now (replicate 8 0) (trusting me 0 x) (x .recovered) ranked (omega (arith, r .me-high, r .n-high)) (omega (arith, st .living .leader-high, r .n-high)) (omega (arith, r .me-high, r .n-high)) (joined-zeros (x .recovered) e)
       (λ a b. ap (λ t. trusting (x .leader) t x) (sym (j .ends)))
       (λ a b. absurd (omega arith))
       (λ a b. absurd (omega (arith, j .first)))

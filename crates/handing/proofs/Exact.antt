@@ -51,10 +51,10 @@ found-starts me n period tick x f =
     (ap (fit me n period tick) (sym (f .is-station)) ∙ holds-fit me n period tick (f .system) (f .holds))
 
 -- a sender that can be heard before its older messages can be heard after them
-module _ (me n period tick q : ℕ) (sender : Station) (hq : In n q) (other : q ≢ me) (older : List Message) (m : Message) (younger : List Message)
+module _ (ranks : List ℕ) (me n period tick q : ℕ) (sender : Station) (hq : In n q) (other : q ≢ me) (older : List Message) (m : Message) (younger : List Message)
     (mail : Spaced (Posted n period tick sender) period 0 (older ++ (m ∷ younger))) where
   abbrev Hearable : Station → Type 0
-  Hearable x = (v : List ℕ) → fitMessage me n q v ≡ true → fitHear me n period (tick + 1) q v x ≡ true
+  Hearable x = (v : List ℕ) → fitMessage me n q v ≡ true → fitHear ranks me n period (tick + 1) q v x ≡ true
 
   -- a message is fit, and another of the same sender can be due in the same tick
   abbrev Gap : List ℕ → Type 0
@@ -65,13 +65,13 @@ module _ (me n period tick q : ℕ) (sender : Station) (hq : In n q) (other : q 
   older-gap =
       let last : m .sent ≤ tick = spaced-here 0 older m younger mail .1 .sent-by in
       all-map (λ (o : Message). Posted n period tick sender o × (o .sent + period ≤ m .sent)) (λ (o : Message). o .due ≡ tick + 1 → Gap (o .counts))
-      (λ o p due. (posted-fits me n period tick q sender hq other o (p .0), omega (arith, p .0 .due-by, p .1)))
+      (λ o p due. (posted-fits ranks me n period tick q sender hq other o (p .0), omega (arith, p .0 .due-by, p .1)))
       older (spaced-older 0 older m younger mail)
 
-  pub hears-after : (x : Station) → Hearable x → fitHear me n period (tick + 1) q (m .counts) (heardLink byCounts me q (tick + 1) older x) ≡ true
+  pub hears-after : (x : Station) → Hearable x → fitHear ranks me n period (tick + 1) q (m .counts) (heardLink (byCounts ranks) me q (tick + 1) older x) ≡ true
   hears-after x a =
-      link-keeps byCounts Hearable (λ o. Gap (o .counts)) me (tick + 1) q (λ o y g b v′ f. hear-keeps me n period (tick + 1) q q (o .counts) v′ y (b (o .counts) (g .0)) (inr (refl, g .1)) f) older x older-gap a (m .counts)
-      (posted-fits me n period tick q sender hq other m (spaced-here 0 older m younger mail .1))
+      link-keeps (byCounts ranks) Hearable (λ o. Gap (o .counts)) me (tick + 1) q (λ o y g b v′ f. hear-keeps ranks me n period (tick + 1) q q (o .counts) v′ y (b (o .counts) (g .0)) (inr (refl, g .1)) f) older x older-gap a (m .counts)
+      (posted-fits ranks me n period tick q sender hq other m (spaced-here 0 older m younger mail .1))
 
 -- what a sound system hands to a station that is up, in its next tick
 module _ (me n period now : ℕ) (s : System) (r : Runs me n period now s) where
@@ -90,36 +90,36 @@ module _ (me n period now : ℕ) (s : System) (r : Runs me n period now s) where
 
   -- station me in the tick c: after the senders below q and the older messages of q, and after all of them
   abbrev afterOlder : ℕ → ℕ → List Message → Station
-  afterOlder c q older = heardLink byCounts me q c older (each (q - 1) (λ k. heardLink byCounts me (k + 1) c (underway s (k + 1) me)) (station s me))
+  afterOlder c q older = heardLink (byCounts (s .ranks)) me q c older (each (q - 1) (λ k. heardLink (byCounts (s .ranks)) me (k + 1) c (underway s (k + 1) me)) (station s me))
 
   abbrev afterHearing : ℕ → ℕ → Station
-  afterHearing a c = heardAll byCounts a me c (λ q. underway s q me) (station s me)
+  afterHearing a c = heardAll (byCounts (s .ranks)) a me c (λ q. underway s q me) (station s me)
 
   pub hands-hear : (q : ℕ) (older : List Message) (m : Message) (younger : List Message) → In (s .n) q → q ≢ me → underway s q me ≡ older ++ (m ∷ younger)
-      → fitHear me n period now q (m .counts) (afterOlder now q older) ≡ true
+      → fitHear (s .ranks) me n period now q (m .counts) (afterOlder now q older) ≡ true
   hands-hear q older m younger hq ne e =
-      let x : Station = each (q - 1) (λ k. heardLink byCounts me (k + 1) (next s) (underway s (k + 1) me)) (station s me) in
-      let a : Ready me (s .n) (s .period) (next s) (q - 1) x = heard-below s sound-before in-time me me-in (r .is-up) (q - 1) (omega (arith, hq .high)) in
-      with-given (λ a b c. fitHear me a b c q (m .counts) (afterOlder c q older) ≡ true)
-      (hears-after me (s .n) (s .period) (s .tick) q (station s q) hq ne older m younger
+      let x : Station = each (q - 1) (λ k. heardLink (byCounts (s .ranks)) me (k + 1) (next s) (underway s (k + 1) me)) (station s me) in
+      let a : Ready (s .ranks) me (s .n) (s .period) (next s) (q - 1) x = heard-below s sound-before in-time me me-in (r .is-up) (q - 1) (omega (arith, hq .high)) in
+      with-given (λ a b c. fitHear (s .ranks) me a b c q (m .counts) (afterOlder c q older) ≡ true)
+      (hears-after (s .ranks) me (s .n) (s .period) (s .tick) q (station s q) hq ne older m younger
       (subst (Spaced (Posted (s .n) (s .period) (s .tick) (station s q)) (s .period) 0) e (underway-spaced s sound-before q me hq me-in ne))
       x (λ v w. a .above q v (omega (arith, hq .low)) w))
 
   pub hands-expire : afterHearing n now .timer ≡ now → fitExpire me n period now (afterHearing n now) ≡ true
   hands-expire =
       with-given (λ a b c. afterHearing a c .timer ≡ c → fitExpire me a b c (afterHearing a c) ≡ true)
-      (during-expires me (s .n) (s .period) (next s) (afterHearing (s .n) (next s)) (heard-timely s sound-before in-time me me-in (r .is-up)))
+      (during-expires (s .ranks) me (s .n) (s .period) (next s) (afterHearing (s .n) (next s)) (heard-timely s sound-before in-time me me-in (r .is-up)))
 
-  pub hands-slot : settled s me .slot ≡ now → fitSlot me n period now (settled s me) ≡ true
+  pub hands-slot : settled s me .slot ≡ now → fitSlot (s .ranks) me n period now (settled s me) ≡ true
   hands-slot =
-      with-given (λ a b c. settled s me .slot ≡ c → fitSlot me a b c (settled s me) ≡ true)
+      with-given (λ a b c. settled s me .slot ≡ c → fitSlot (s .ranks) me a b c (settled s me) ≡ true)
       (settled-timed s sound-before in-time me me-in (r .is-up) .slots)
 
 -- so whatever is handed fits
 module _ (me n period now : ℕ) where
-  pub handed-hears : (q : ℕ) (v : List ℕ) (x : Station) → Hears me n period now q v x → fitHear me n period now q v x ≡ true
-  handed-hears q v x h =
-      subst₂ (λ w y. fitHear me n period now q w y ≡ true) (h .is-counts) (h .is-station)
+  pub handed-hears : (ranks : List ℕ) (q : ℕ) (v : List ℕ) (x : Station) → Hears ranks me n period now q v x → fitHear ranks me n period now q v x ≡ true
+  handed-hears ranks q v x h =
+      subst₃ (λ r w y. fitHear r me n period now q w y ≡ true) (h .same-ranks) (h .is-counts) (h .is-station)
       (hands-hear me n period now (h .system) (h .runs) q (h .older) (h .message) (h .younger)
       (record { low = h .sender-low; high = omega (arith, h .sender-high, h .runs .holds .same-n) })
       (h .other)
@@ -129,8 +129,8 @@ module _ (me n period now : ℕ) where
   handed-expires x h =
       subst (λ y. y .timer ≡ now → fitExpire me n period now y ≡ true) (h .is-station) (hands-expire me n period now (h .system) (h .runs)) (h .is-due)
 
-  pub handed-slots : (x : Station) → Slots me n period now x → fitSlot me n period now x ≡ true
-  handed-slots x h = subst (λ y. y .slot ≡ now → fitSlot me n period now y ≡ true) (h .is-station) (hands-slot me n period now (h .system) (h .runs)) (h .is-due)
+  pub handed-slots : (ranks : List ℕ) (x : Station) → Slots ranks me n period now x → fitSlot ranks me n period now x ≡ true
+  handed-slots ranks x h = subst₂ (λ r y. y .slot ≡ now → fitSlot r me n period now y ≡ true) (h .same-ranks) (h .is-station) (hands-slot me n period now (h .system) (h .runs)) (h .is-due)
 
 pub start-exact : StartExact
 start-exact me n period tick x = (start-handed me n period tick x, found-starts me n period tick x)
@@ -139,10 +139,10 @@ pub crash-exact : CrashExact
 crash-exact me n period tick x = (crash-handed me n period tick x, λ f. of-crash me n period tick x (found-starts me n period tick x (f .0)) (f .1))
 
 pub hear-exact : HearExact
-hear-exact me n period now q v x l = (hear-handed me n period now q v x l, handed-hears me n period now q v x)
+hear-exact ranks me n period now q v x eight l = (hear-handed ranks me n period now q v x eight l, handed-hears me n period now ranks q v x)
 
 pub expire-exact : ExpireExact
 expire-exact me n period now x = (expire-handed me n period now x, handed-expires me n period now x)
 
 pub slot-exact : SlotExact
-slot-exact me n period now x l = (slot-handed me n period now x l, handed-slots me n period now x)
+slot-exact ranks me n period now x eight l = (slot-handed ranks me n period now x eight l, handed-slots me n period now ranks x)

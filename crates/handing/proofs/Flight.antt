@@ -18,7 +18,7 @@ use Rattle.election.proofs.Soundness.{sound-of, underway-spaced}
 use Rattle.election.proofs.Spaced.{Spaced, spaced-here, spaced-older}
 use Rattle.handing.proofs.Carries.{Adrift, Inbox, noMail, carries-two, no-mail, also-mail}
 use Rattle.handing.proofs.Handing.{dueNow, due-now, only}
-use Rattle.handing.proofs.Witness.{around, around-underway, around-full, around-sound}
+use Rattle.handing.proofs.Witness.{noRanks, no-ranks, eight-ranks, around, around-underway, around-full, around-sound}
 
 module _ (t : Together) where
   abbrev s : System
@@ -55,7 +55,7 @@ two = sentAt 0 ∷ sentAt flight ∷ []
 
 module _ (period : ℕ) (low : 16 ≤ period) (high : period ≤ flight) where
   abbrev reaching : System
-  reaching = around 2 2 period flight (unstarted 2) (only 1 two)
+  reaching = around noRanks 2 2 period flight (unstarted 2) (only 1 two)
 
   down-two : fit 2 2 period flight (unstarted 2) ≡ true
   down-two =
@@ -76,7 +76,7 @@ module _ (period : ℕ) (low : 16 ≤ period) (high : period ≤ flight) where
   reached-by =
       record {
         system = reaching;
-        is-sound = around-sound 2 2 period flight (unstarted 2) (only 1 two) down-two inbox (omega arith);
+        is-sound = around-sound noRanks 2 2 period flight (unstarted 2) (only 1 two) (no-ranks 2) down-two inbox (omega arith);
         is-ready = refl;
         p = 1;
         q = 2;
@@ -90,12 +90,12 @@ module _ (period : ℕ) (low : 16 ≤ period) (high : period ≤ flight) where
         between = [];
         younger = sentAt flight;
         last = [];
-        is-mail = around-underway 2 2 period flight (unstarted 2) (only 1 two) 1 (record { low = omega arith; high = omega arith }) (record { low = omega arith; high = omega arith });
+        is-mail = around-underway noRanks 2 2 period flight (unstarted 2) (only 1 two) 1 (record { low = omega arith; high = omega arith }) (record { low = omega arith; high = omega arith });
         is-due = refl;
       }
 
   full : Full reaching
-  full = around-full 2 2 period flight (unstarted 2) (only 1 two) (λ p. inbox .carried p .few)
+  full = around-full noRanks 2 2 period flight (unstarted 2) (only 1 two) eight-ranks (λ p. inbox .carried p .few)
 
 pub flight-exact : FlightExact
 unfolding reached-by

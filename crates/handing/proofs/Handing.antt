@@ -6,7 +6,7 @@ use mathlib.Core.List.{List, [], _∷_, _++_}
 use mathlib.Core.Bool.{true, true≢false}
 use Prim.Native.Nat.{ℕ, _+_, _-_, _<_, _≤_, min}
 use native.Mathlib.Omega.{arith}
-use lib.ListN.{replicate}
+use lib.ListN.{length, replicate}
 use Rattle.lists.specs.Fold.{each}
 use Rattle.station.specs.Order.{entry}
 use Rattle.fit.specs.Fit.{flight, fit, fitStart, fitCrash, fitHear, fitExpire, fitSlot, longestDelay}
@@ -16,7 +16,7 @@ use Rattle.station.specs.declared.Station.{Station}
 use Rattle.fit.proofs.Between.{start-of, crash-of}
 use Rattle.fit.proofs.Handed.{JustSet, InTick, Before, Hearing, hearing-of, Expiring, expiring-of, Unended, Ended, Slotting, slotting-of}
 use Rattle.fit.proofs.Keeps.{leader-timeout, set-other}
-use Rattle.fit.proofs.Tests.{Counts, Timer, Standing, of-counts, of-fit}
+use Rattle.fit.proofs.Tests.{Counts, Timer, Standing, of-counts, ranked-of, of-fit}
 use Rattle.handing.specs.Handed.{Finds, Hears, Expires, Slots, Eight, ByFull}
 use Rattle.election.specs.Heads.{byCounts}
 use Rattle.election.specs.System.{station, underway, isLink}
@@ -29,7 +29,7 @@ use Rattle.handing.proofs.Earlier.{earlier-fits, leader-heard, earlier,
 use Rattle.election.proofs.Links.{zeros-in}
 use Rattle.election.proofs.Places.{In, is-link}
 use Rattle.election.proofs.Steps.{heard-none, settled-up}
-use Rattle.handing.proofs.Witness.{around, around-station, around-underway, around-full, around-finds, around-runs, inside-eight}
+use Rattle.handing.proofs.Witness.{noRanks, no-ranks, eight-ranks, around, around-station, around-underway, around-full, around-finds, around-runs, inside-eight}
 
 pub start-handed : (me n period tick : ℕ) (x : Station) → fitStart me n period tick x ≡ true → ByFull (Finds me n period tick x) (λ h. h .system)
 start-handed me n period tick x e = let (h, f) = start-of me n period tick x e in around-finds me n period tick x h f
@@ -53,7 +53,7 @@ only q ms = also q ms noMail
 abbrev leaderMail : ℕ → Station → ℕ → List Message
 leaderMail now x = only (x .leader) (dueNow now (now - 1) (replicate 8 0) ∷ [])
 
-module _ (me n period now : ℕ) (v : InTick me n period now) where
+module _ (ranks : List ℕ) (me n period now : ℕ) (v : InTick me n period now) where
   hm : In 8 me
   hm = inside-eight me n period (v .given)
 
@@ -61,27 +61,27 @@ module _ (me n period now : ℕ) (v : InTick me n period now) where
   link-here q low high ne = is-link n q me (record { low = low; high = high }) (record { low = v .given .me-low; high = v .given .me-high }) ne
 
   -- nothing comes
-  quiet : (x : Station) → heardAll byCounts n me now (λ q. underway (around me n period (now - 1) x noMail) q me) (station (around me n period (now - 1) x noMail) me) ≡ x
+  quiet : (x : Station) → heardAll (byCounts ranks) n me now (λ q. underway (around ranks me n period (now - 1) x noMail) q me) (station (around ranks me n period (now - 1) x noMail) me) ≡ x
   quiet x =
-      heardAll-each byCounts n me now (λ q. underway (around me n period (now - 1) x noMail) q me) (station (around me n period (now - 1) x noMail) me)
-      ∙ hears-nobody byCounts me n period (now - 1) now x noMail hm n (v .given .n-high) (station (around me n period (now - 1) x noMail) me) (λ p h. refl)
-      ∙ around-station me n period (now - 1) x noMail hm
+      heardAll-each (byCounts ranks) n me now (λ q. underway (around ranks me n period (now - 1) x noMail) q me) (station (around ranks me n period (now - 1) x noMail) me)
+      ∙ hears-nobody (byCounts ranks) ranks me n period (now - 1) now x noMail hm n (v .given .n-high) (station (around ranks me n period (now - 1) x noMail) me) (λ p h. refl)
+      ∙ around-station ranks me n period (now - 1) x noMail hm
 
   -- after (a) and (b)
-  settled-now : (x y : Station) (mail : ℕ → List Message) → x .up ≡ true → heardAll byCounts n me now (λ q. underway (around me n period (now - 1) x mail) q me) (station (around me n period (now - 1) x mail) me) ≡ y → settled (around me n period (now - 1) x mail) me ≡ expiredNow (expired me) now y
+  settled-now : (x y : Station) (mail : ℕ → List Message) → x .up ≡ true → heardAll (byCounts ranks) n me now (λ q. underway (around ranks me n period (now - 1) x mail) q me) (station (around ranks me n period (now - 1) x mail) me) ≡ y → settled (around ranks me n period (now - 1) x mail) me ≡ expiredNow (expired me) now y
   settled-now x y mail u h =
       let e : now - 1 + 1 ≡ now = omega (arith, v .tick-low) in
-      let s : System = around me n period (now - 1) x mail in
-      settled-up s me (ap (λ z. z .up) (around-station me n period (now - 1) x mail hm) ∙ u)
-      ∙ ap (λ t. expiredNow (expired me) t (heardAll byCounts n me t (λ q. underway s q me) (station s me))) e
+      let s : System = around ranks me n period (now - 1) x mail in
+      settled-up s me (ap (λ z. z .up) (around-station ranks me n period (now - 1) x mail hm) ∙ u)
+      ∙ ap (λ t. expiredNow (expired me) t (heardAll (byCounts ranks) n me t (λ q. underway s q me) (station s me))) e
       ∙ ap (expiredNow (expired me) now) h
 
 -- the leader's mail may be under way
-leader-mail : (me n period now : ℕ) (x : Station) → InTick me n period now → Standing me n period (now - 1) x → JustSet me now x → Inbox me n period (now - 1) (leaderMail now x)
-leader-mail me n period now x v st j =
+leader-mail : (ranks : List ℕ) (me n period now : ℕ) (x : Station) → InTick me n period now → Standing me n period (now - 1) x → JustSet ranks me now x → Inbox me n period (now - 1) (leaderMail now x)
+leader-mail ranks me n period now x v st j =
     let o : Message = dueNow now (now - 1) (replicate 8 0) in
     also-mail me n period (now - 1) (x .leader) (o ∷ []) noMail
-    (link-here me n period now v (x .leader) (st .living .leader-low) (st .living .leader-high) (set-other me now x j))
+    (link-here ranks me n period now v (x .leader) (st .living .leader-low) (st .living .leader-high) (set-other ranks me now x j))
     (carries-one n period (now - 1) o (due-now n period now (now - 1) (replicate 8 0) (v .tick-low) (omega arith) (omega (arith, v .tick-low)) (zeros-in n)))
     (no-mail me n period (now - 1))
 
@@ -89,18 +89,18 @@ pub expire-handed : (me n period now : ℕ) (x : Station) → fitExpire me n per
 expire-handed me n period now x e =
     let d : Expiring me n period now x = expiring-of me n period now x e in (
       record {
-        system = around me n period (now - 1) x noMail;
-        runs = around-runs me n period now x noMail (d .values .tick-low) (d .values .tick-high) (of-fit me n period (now - 1) x (d .values .given) (d .kept) (d .stands) (d .timer)) (d .stands .living .up) (no-mail me n period (now - 1));
-        is-station = quiet me n period now (d .values) x;
+        system = around noRanks me n period (now - 1) x noMail;
+        runs = around-runs noRanks me n period now x noMail (d .values .tick-low) (d .values .tick-high) (no-ranks n) (of-fit me n period (now - 1) x (d .values .given) (d .kept) (d .stands) (d .timer)) (d .stands .living .up) (no-mail me n period (now - 1));
+        is-station = quiet noRanks me n period now (d .values) x;
         is-due = d .now;
       },
-      around-full me n period (now - 1) x noMail (λ p. omega arith),
+      around-full noRanks me n period (now - 1) x noMail eight-ranks (λ p. omega arith),
     )
 
-abbrev FullHears : (me n period now q : ℕ) (v : List ℕ) (x : Station) → Type 0
-FullHears me n period now q v x = ByFull (Hears me n period now q v x) (λ h. h .system)
+abbrev FullHears : (ranks : List ℕ) (me n period now q : ℕ) (v : List ℕ) (x : Station) → Type 0
+FullHears ranks me n period now q v x = ByFull (Hears ranks me n period now q v x) (λ h. h .system)
 
-module _ (me n period now q : ℕ) (v : List ℕ) (x : Station) (h : Hearing me n period now q v x) where
+module _ (ranks : List ℕ) (me n period now q : ℕ) (v : List ℕ) (x : Station) (eight : length ranks ≡ 8) (h : Hearing ranks me n period now q v x) where
   abbrev youngest : Message
   youngest = dueNow now (now - 1) v
 
@@ -108,34 +108,35 @@ module _ (me n period now q : ℕ) (v : List ℕ) (x : Station) (h : Hearing me 
   youngest-due = due-now n period now (now - 1) v (h .values .tick-low) (omega arith) (omega (arith, h .values .tick-low)) (h .message .counts)
 
   from-q : isLink n q me ≡ true
-  from-q = link-here me n period now (h .values) q (h .message .low) (h .message .high) (h .message .other)
+  from-q = link-here ranks me n period now (h .values) q (h .message .low) (h .message .high) (h .message .other)
 
   -- after the senders below q, in the system around y
   abbrev heardLower : Station → (ℕ → List Message) → Station → Station
-  heardLower y mail z = each (q - 1) (λ k. heardLink byCounts me (k + 1) now (underway (around me n period (now - 1) y mail) (k + 1) me)) z
+  heardLower y mail z = each (q - 1) (λ k. heardLink (byCounts ranks) me (k + 1) now (underway (around ranks me n period (now - 1) y mail) (k + 1) me)) z
 
   -- handed by the system around an earlier station
-  handed-by : (y : Station) (mail : ℕ → List Message) (older : List Message) → Inbox me n period (now - 1) mail → fit me n period (now - 1) y ≡ true → y .up ≡ true → mail q ≡ older ++ (youngest ∷ []) → heardLink byCounts me q now older (heardLower y mail y) ≡ x → FullHears me n period now q v x
+  handed-by : (y : Station) (mail : ℕ → List Message) (older : List Message) → Inbox me n period (now - 1) mail → fit me n period (now - 1) y ≡ true → y .up ≡ true → mail q ≡ older ++ (youngest ∷ []) → heardLink (byCounts ranks) me q now older (heardLower y mail y) ≡ x → FullHears ranks me n period now q v x
   handed-by y mail older m f u e s = (
     record {
-      system = around me n period (now - 1) y mail;
-      runs = around-runs me n period now y mail (h .values .tick-low) (h .values .tick-high) f u m;
+      system = around ranks me n period (now - 1) y mail;
+      runs = around-runs ranks me n period now y mail (h .values .tick-low) (h .values .tick-high) (h .ranked) f u m;
+      same-ranks = refl;
       sender-low = h .message .low;
       sender-high = h .message .high;
       other = h .message .other;
       older = older;
       message = youngest;
       younger = [];
-      is-mail = around-underway me n period (now - 1) y mail q (record { low = h .message .low; high = omega (arith, h .message .high, h .values .given .n-high) }) (hm me n period now (h .values)) ∙ e;
+      is-mail = around-underway ranks me n period (now - 1) y mail q (record { low = h .message .low; high = omega (arith, h .message .high, h .values .given .n-high) }) (hm ranks me n period now (h .values)) ∙ e;
       is-due = refl;
       is-counts = refl;
-      is-station = ap (λ z. heardLink byCounts me q now older (heardLower y mail z)) (around-station me n period (now - 1) y mail (hm me n period now (h .values))) ∙ s;
+      is-station = ap (λ z. heardLink (byCounts ranks) me q now older (heardLower y mail z)) (around-station ranks me n period (now - 1) y mail (hm ranks me n period now (h .values))) ∙ s;
     },
-    around-full me n period (now - 1) y mail (λ p. m .carried p .few),
+    around-full ranks me n period (now - 1) y mail eight (λ p. m .carried p .few),
   )
 
   -- where nothing was heard before
-  hears-first : Timer me (now - 1) x → FullHears me n period now q v x
+  hears-first : Timer me (now - 1) x → FullHears ranks me n period now q v x
   hears-first t =
       let mail : ℕ → List Message = only q (youngest ∷ []) in
       let m : Inbox me n period (now - 1) mail = also-mail me n period (now - 1) q (youngest ∷ []) noMail from-q (carries-one n period (now - 1) youngest youngest-due) (no-mail me n period (now - 1)) in
@@ -143,32 +144,32 @@ module _ (me n period now q : ℕ) (v : List ℕ) (x : Station) (h : Hearing me 
       (of-fit me n period (now - 1) x (h .values .given) (h .kept) (h .stands) t)
       (h .stands .living .up)
       (also-own q (youngest ∷ []) noMail)
-      (heard-none byCounts me q now [] (heardLower x mail x) refl
-      ∙ hears-nobody byCounts me n period (now - 1) now x mail (hm me n period now (h .values)) (q - 1) (omega (arith, h .message .high, h .values .given .n-high)) x (λ p i. also-others q (youngest ∷ []) noMail p (λ e. omega (arith, h .message .low))))
+      (heard-none (byCounts ranks) me q now [] (heardLower x mail x) refl
+      ∙ hears-nobody (byCounts ranks) ranks me n period (now - 1) now x mail (hm ranks me n period now (h .values)) (q - 1) (omega (arith, h .message .high, h .values .given .n-high)) x (λ p i. also-others q (youngest ∷ []) noMail p (λ e. omega (arith, h .message .low))))
 
-  module _ (l : Eight x) (j : JustSet me now x) where
+  module _ (l : Eight x) (j : JustSet ranks me now x) where
     abbrev earlierFits : fit me n period (now - 1) (trusting me 0 x) ≡ true
     earlierFits = earlier-fits me n period now x (h .values .given) (h .stands) (h .kept)
 
     -- where the leader is a lower sender
-    hears-after-lower : x .leader < q → FullHears me n period now q v x
+    hears-after-lower : x .leader < q → FullHears ranks me n period now q v x
     hears-after-lower b =
         let y : Station = trusting me 0 x in
         let o : Message = dueNow now (now - 1) (replicate 8 0) in
         let mail : ℕ → List Message = also q (youngest ∷ []) (leaderMail now x) in
-        let w : Inbox me n period (now - 1) (leaderMail now x) = leader-mail me n period now x (h .values) (h .stands) j in
+        let w : Inbox me n period (now - 1) (leaderMail now x) = leader-mail ranks me n period now x (h .values) (h .stands) j in
         let m : Inbox me n period (now - 1) mail = also-mail me n period (now - 1) q (youngest ∷ []) (leaderMail now x) from-q (carries-one n period (now - 1) youngest youngest-due) w in
         handed-by y mail [] m earlierFits (h .stands .living .up)
         (also-own q (youngest ∷ []) (leaderMail now x))
-        (heard-none byCounts me q now [] (heardLower y mail y) refl
-        ∙ hears-only byCounts me n period (now - 1) now y mail (hm me n period now (h .values)) (q - 1) (omega (arith, h .message .high, h .values .given .n-high)) y (x .leader) (h .stands .living .leader-low) (omega arith)
+        (heard-none (byCounts ranks) me q now [] (heardLower y mail y) refl
+        ∙ hears-only (byCounts ranks) ranks me n period (now - 1) now y mail (hm ranks me n period now (h .values)) (q - 1) (omega (arith, h .message .high, h .values .given .n-high)) y (x .leader) (h .stands .living .leader-low) (omega arith)
         (λ p i ne. also-others q (youngest ∷ []) (leaderMail now x) p (λ e. omega (arith, h .message .low)) ∙ also-others (x .leader) (o ∷ []) noMail p ne)
-        ∙ ap (λ ms. heardLink byCounts me (x .leader) now ms y) (also-others q (youngest ∷ []) (leaderMail now x) (x .leader) (λ e. omega arith) ∙ also-own (x .leader) (o ∷ []) noMail)
-        ∙ hears-one byCounts me (x .leader) now y o refl
-        ∙ leader-heard me n period now x (h .values .given) (h .stands) j (l .counts))
+        ∙ ap (λ ms. heardLink (byCounts ranks) me (x .leader) now ms y) (also-others q (youngest ∷ []) (leaderMail now x) (x .leader) (λ e. omega arith) ∙ also-own (x .leader) (o ∷ []) noMail)
+        ∙ hears-one (byCounts ranks) me (x .leader) now y o refl
+        ∙ leader-heard me n period now x (h .values .given) (h .stands) ranks (ranked-of n ranks (h .ranked)) j (l .counts))
 
     -- where it is q, with an older message
-    hears-after-own : x .leader ≡ q → period ≤ min (now - 1) flight → FullHears me n period now q v x
+    hears-after-own : x .leader ≡ q → period ≤ min (now - 1) flight → FullHears ranks me n period now q v x
     hears-after-own e b =
         let y : Station = trusting me 0 x in
         let o : Message = dueNow now (now - 1 - period) (replicate 8 0) in
@@ -177,86 +178,87 @@ module _ (me n period now q : ℕ) (v : List ℕ) (x : Station) (h : Hearing me 
         let m : Inbox me n period (now - 1) (only q ms) = also-mail me n period (now - 1) q ms noMail from-q (carries-two n period (now - 1) o youngest u youngest-due (omega arith)) (no-mail me n period (now - 1)) in
         handed-by y (only q ms) (o ∷ []) m earlierFits (h .stands .living .up)
         (also-own q ms noMail)
-        (ap (heardLink byCounts me q now (o ∷ []))
-        (hears-nobody byCounts me n period (now - 1) now y (only q ms) (hm me n period now (h .values)) (q - 1) (omega (arith, h .message .high, h .values .given .n-high)) y (λ p i. also-others q ms noMail p (λ e. omega (arith, h .message .low))))
-        ∙ hears-one byCounts me q now y o refl
-        ∙ ap (λ p. heard me p (replicate 8 0) now y) (sym e)
-        ∙ leader-heard me n period now x (h .values .given) (h .stands) j (l .counts))
+        (ap (heardLink (byCounts ranks) me q now (o ∷ []))
+        (hears-nobody (byCounts ranks) ranks me n period (now - 1) now y (only q ms) (hm ranks me n period now (h .values)) (q - 1) (omega (arith, h .message .high, h .values .given .n-high)) y (λ p i. also-others q ms noMail p (λ e. omega (arith, h .message .low))))
+        ∙ hears-one (byCounts ranks) me q now y o refl
+        ∙ ap (λ p. heard ranks me p (replicate 8 0) now y) (sym e)
+        ∙ leader-heard me n period now x (h .values .given) (h .stands) ranks (ranked-of n ranks (h .ranked)) j (l .counts))
 
-pub hear-handed : (me n period now q : ℕ) (v : List ℕ) (x : Station) → Eight x → fitHear me n period now q v x ≡ true → FullHears me n period now q v x
-hear-handed me n period now q v x l e = let h : Hearing me n period now q v x = hearing-of me n period now q v x e in go h (h .timer)
+pub hear-handed : (ranks : List ℕ) (me n period now q : ℕ) (v : List ℕ) (x : Station) → length ranks ≡ 8 → Eight x → fitHear ranks me n period now q v x ≡ true → FullHears ranks me n period now q v x
+hear-handed ranks me n period now q v x eight l e = let h : Hearing ranks me n period now q v x = hearing-of ranks me n period now q v x e in go h (h .timer)
   where
-    go : Hearing me n period now q v x → Timer me (now - 1) x ⊎ (JustSet me now x × Before period now q x) → FullHears me n period now q v x
-    go h (inl t) = hears-first me n period now q v x h t
-    go h (inr (j, inl b)) = hears-after-lower me n period now q v x h l j b
-    go h (inr (j, inr b)) = hears-after-own me n period now q v x h l j (b .0) (b .1)
+    go : Hearing ranks me n period now q v x → Timer me (now - 1) x ⊎ (JustSet ranks me now x × Before period now q x) → FullHears ranks me n period now q v x
+    go h (inl t) = hears-first ranks me n period now q v x eight h t
+    go h (inr (j, inl b)) = hears-after-lower ranks me n period now q v x eight h l j b
+    go h (inr (j, inr b)) = hears-after-own ranks me n period now q v x eight h l j (b .0) (b .1)
 
-abbrev FullSlots : (me n period now : ℕ) (x : Station) → Type 0
-FullSlots me n period now x = ByFull (Slots me n period now x) (λ h. h .system)
+abbrev FullSlots : (ranks : List ℕ) (me n period now : ℕ) (x : Station) → Type 0
+FullSlots ranks me n period now x = ByFull (Slots ranks me n period now x) (λ h. h .system)
 
-module _ (me n period now : ℕ) (x : Station) (d : Slotting me n period now x) where
+module _ (ranks : List ℕ) (me n period now : ℕ) (x : Station) (eight : length ranks ≡ 8) (d : Slotting ranks me n period now x) where
   -- by the system around an earlier station
-  slots-by : (y : Station) (mail : ℕ → List Message) → Inbox me n period (now - 1) mail → fit me n period (now - 1) y ≡ true → y .up ≡ true → settled (around me n period (now - 1) y mail) me ≡ x → FullSlots me n period now x
+  slots-by : (y : Station) (mail : ℕ → List Message) → Inbox me n period (now - 1) mail → fit me n period (now - 1) y ≡ true → y .up ≡ true → settled (around ranks me n period (now - 1) y mail) me ≡ x → FullSlots ranks me n period now x
   slots-by y mail m f u s = (
     record {
-      system = around me n period (now - 1) y mail;
-      runs = around-runs me n period now y mail (d .values .tick-low) (d .values .tick-high) f u m;
+      system = around ranks me n period (now - 1) y mail;
+      runs = around-runs ranks me n period now y mail (d .values .tick-low) (d .values .tick-high) (d .ranked) f u m;
+      same-ranks = refl;
       is-station = s;
       is-due = d .now;
     },
-    around-full me n period (now - 1) y mail (λ p. m .carried p .few),
+    around-full ranks me n period (now - 1) y mail eight (λ p. m .carried p .few),
   )
 
-  module _ (u : Unended me n period now x) where
+  module _ (u : Unended ranks me n period now x) where
     stands : Standing me n period (now - 1) x
     stands = record { living = d .living; timeouts = u .timeouts; slot-low = omega (arith, d .now, d .values .tick-low); slot-high = omega (arith, d .now, d .values .given .period-low) }
 
     -- nothing was heard, and the timer does not end
-    slots-quiet : Timer me (now - 1) x → x .timer ≢ now → FullSlots me n period now x
+    slots-quiet : Timer me (now - 1) x → x .timer ≢ now → FullSlots ranks me n period now x
     slots-quiet t ne =
         slots-by x noMail (no-mail me n period (now - 1))
         (of-fit me n period (now - 1) x (d .values .given) (d .kept) stands t)
         (d .living .up)
-        (settled-now me n period now (d .values) x x noMail (d .living .up) (quiet me n period now (d .values) x) ∙ timer-runs (expired me) now x ne)
+        (settled-now ranks me n period now (d .values) x x noMail (d .living .up) (quiet ranks me n period now (d .values) x) ∙ timer-runs (expired me) now x ne)
 
     -- the leader was heard
-    slots-heard : Eight x → JustSet me now x → FullSlots me n period now x
+    slots-heard : Eight x → JustSet ranks me now x → FullSlots ranks me n period now x
     slots-heard l j =
         let y : Station = trusting me 0 x in
         let o : Message = dueNow now (now - 1) (replicate 8 0) in
-        let m : Inbox me n period (now - 1) (leaderMail now x) = leader-mail me n period now x (d .values) stands j in
-        let s : System = around me n period (now - 1) y (leaderMail now x) in
-        let t : (period ≤ entry (x .timeouts) (x .leader)) × (entry (x .timeouts) (x .leader) ≤ longest (now - 1)) = leader-timeout me n period (longest (now - 1)) x (d .values .given) (d .living) (u .timeouts) (set-other me now x j) in
+        let m : Inbox me n period (now - 1) (leaderMail now x) = leader-mail ranks me n period now x (d .values) stands j in
+        let s : System = around ranks me n period (now - 1) y (leaderMail now x) in
+        let t : (period ≤ entry (x .timeouts) (x .leader)) × (entry (x .timeouts) (x .leader) ≤ longest (now - 1)) = leader-timeout me n period (longest (now - 1)) x (d .values .given) (d .living) (u .timeouts) (set-other ranks me now x j) in
         slots-by y (leaderMail now x) m
         (earlier-fits me n period now x (d .values .given) stands (d .kept))
         (d .living .up)
-        (settled-now me n period now (d .values) y x (leaderMail now x) (d .living .up)
-        (heardAll-each byCounts n me now (λ q. underway s q me) (station s me)
-        ∙ hears-only byCounts me n period (now - 1) now y (leaderMail now x) (hm me n period now (d .values)) n (d .values .given .n-high) (station s me) (x .leader) (d .living .leader-low) (d .living .leader-high) (λ p i ne. also-others (x .leader) (o ∷ []) noMail p ne)
-        ∙ ap (λ ms. heardLink byCounts me (x .leader) now ms (station s me)) (also-own (x .leader) (o ∷ []) noMail)
-        ∙ ap (heardLink byCounts me (x .leader) now (o ∷ [])) (around-station me n period (now - 1) y (leaderMail now x) (hm me n period now (d .values)))
-        ∙ hears-one byCounts me (x .leader) now y o refl
-        ∙ leader-heard me n period now x (d .values .given) stands j (l .counts))
+        (settled-now ranks me n period now (d .values) y x (leaderMail now x) (d .living .up)
+        (heardAll-each (byCounts ranks) n me now (λ q. underway s q me) (station s me)
+        ∙ hears-only (byCounts ranks) ranks me n period (now - 1) now y (leaderMail now x) (hm ranks me n period now (d .values)) n (d .values .given .n-high) (station s me) (x .leader) (d .living .leader-low) (d .living .leader-high) (λ p i ne. also-others (x .leader) (o ∷ []) noMail p ne)
+        ∙ ap (λ ms. heardLink (byCounts ranks) me (x .leader) now ms (station s me)) (also-own (x .leader) (o ∷ []) noMail)
+        ∙ ap (heardLink (byCounts ranks) me (x .leader) now (o ∷ [])) (around-station ranks me n period (now - 1) y (leaderMail now x) (hm ranks me n period now (d .values)))
+        ∙ hears-one (byCounts ranks) me (x .leader) now y o refl
+        ∙ leader-heard me n period now x (d .values .given) stands ranks (ranked-of n ranks (d .ranked)) j (l .counts))
         ∙ timer-runs (expired me) now x (λ e. omega (arith, j .ends, t .0, d .values .given .period-low)))
 
   -- the timer ended
-  slots-ended : Eight x → Ended me n period now x → FullSlots me n period now x
+  slots-ended : Eight x → Ended me n period now x → FullSlots ranks me n period now x
   slots-ended l u =
       let y : Station = earlier me n period now x (d .values) (d .living) (d .now) u (l .timeouts) in
       slots-by y noMail (no-mail me n period (now - 1))
       (unexpired-fits me n period now x (d .values) (d .living) (d .now) u (l .timeouts) (d .kept))
       (d .living .up)
-      (settled-now me n period now (d .values) y y noMail (d .living .up) (quiet me n period now (d .values) y)
+      (settled-now ranks me n period now (d .values) y y noMail (d .living .up) (quiet ranks me n period now (d .values) y)
       ∙ timer-ends (expired me) now y refl
       ∙ leader-expired me n period now x (d .values) (d .living) (d .now) u (l .timeouts))
 
-pub slot-handed : (me n period now : ℕ) (x : Station) → Eight x → fitSlot me n period now x ≡ true → FullSlots me n period now x
-slot-handed me n period now x l e = let d : Slotting me n period now x = slotting-of me n period now x e in go d (d .timer)
+pub slot-handed : (ranks : List ℕ) (me n period now : ℕ) (x : Station) → length ranks ≡ 8 → Eight x → fitSlot ranks me n period now x ≡ true → FullSlots ranks me n period now x
+slot-handed ranks me n period now x eight l e = let d : Slotting ranks me n period now x = slotting-of ranks me n period now x e in go d (d .timer)
   where
-    go : Slotting me n period now x → Unended me n period now x ⊎ Ended me n period now x → FullSlots me n period now x
+    go : Slotting ranks me n period now x → Unended ranks me n period now x ⊎ Ended me n period now x → FullSlots ranks me n period now x
     go d (inl u) = at (u .timer)
       where
-        at : (Timer me (now - 1) x × (x .timer ≢ now)) ⊎ JustSet me now x → FullSlots me n period now x
-        at (inl t) = slots-quiet me n period now x d u (t .0) (t .1)
-        at (inr j) = slots-heard me n period now x d u l j
-    go d (inr u) = slots-ended me n period now x d l u
+        at : (Timer me (now - 1) x × (x .timer ≢ now)) ⊎ JustSet ranks me now x → FullSlots ranks me n period now x
+        at (inl t) = slots-quiet ranks me n period now x eight d u (t .0) (t .1)
+        at (inr j) = slots-heard ranks me n period now x eight d u l j
+    go d (inr u) = slots-ended ranks me n period now x eight d l u

@@ -23,12 +23,12 @@ unfolding heardLink
 hears-one hear me q now x m e = ap (λ b. cond b (hear me q m now x) x) (eq-eqb (m .due) now e)
 
 -- the first j senders, in a system made around station me
-module _ (hear : Hearing) (me n period tick now : ℕ) (x : Station) (mail : ℕ → List Message) (hm : In 8 me) (j : ℕ) (hj : j ≤ 8) (y : Station) where
+module _ (hear : Hearing) (ranks : List ℕ) (me n period tick now : ℕ) (x : Station) (mail : ℕ → List Message) (hm : In 8 me) (j : ℕ) (hj : j ≤ 8) (y : Station) where
   abbrev pub hearFrom : ℕ → Station → Station
-  hearFrom k r = heardLink hear me (k + 1) now (underway (around me n period tick x mail) (k + 1) me) r
+  hearFrom k r = heardLink hear me (k + 1) now (underway (around ranks me n period tick x mail) (k + 1) me) r
 
   step-mail : (k : ℕ) → k < j → (r : Station) → hearFrom k r ≡ heardLink hear me (k + 1) now (mail (k + 1)) r
-  step-mail k h r = ap (λ ms. heardLink hear me (k + 1) now ms r) (around-underway me n period tick x mail (k + 1) (seat-in 8 k (omega arith)) hm)
+  step-mail k h r = ap (λ ms. heardLink hear me (k + 1) now ms r) (around-underway ranks me n period tick x mail (k + 1) (seat-in 8 k (omega arith)) hm)
 
   step-idle : (k : ℕ) → k < j → (r : Station) → mail (k + 1) ≡ [] → hearFrom k r ≡ r
   step-idle k h r e = step-mail k h r ∙ heard-none hear me (k + 1) now (mail (k + 1)) r e

@@ -12,10 +12,10 @@ use borrow.Author.Tests.{lt-ltb, le-ltb, eq-eqb, ne-eqb}
 use Rattle.lists.specs.Entries.{upTo}
 use Rattle.lists.proofs.Entries.{length-upTo, length-over, getD-upTo}
 use Rattle.lists.proofs.Bools.{cond-elim}
-use Rattle.fit.specs.Fit.{fit, longestDelay}
+use Rattle.fit.specs.Fit.{ranksIn, fit, longestDelay}
 use Rattle.station.specs.declared.Station.{Station}
 use Rattle.fit.proofs.Down.{down-fits}
-use Rattle.fit.proofs.Tests.{Ranges, fit-ranges}
+use Rattle.fit.proofs.Tests.{Ranges, of-ranks, fit-ranges}
 use Rattle.station.proofs.Vectors.{zeros-at}
 use Rattle.handing.specs.Handed.{Holds, Finds, Runs, Full, ByFull}
 use Rattle.election.specs.Sound.{emptyPlace, emptySeat, sound}
@@ -36,8 +36,8 @@ stood me n x p = cond (eqb p me) x (unstarted (cond (ltb (p - 1) n) p 0))
 abbrev mailed : ℕ → (ℕ → List Message) → ℕ → ℕ → List Message
 mailed me mail p q = cond (eqb q me) (mail p) []
 
-abbrev pub around : (me n period tick : ℕ) (x : Station) (mail : ℕ → List Message) → System
-around me n period tick x mail =
+abbrev pub around : (ranks : List ℕ) (me n period tick : ℕ) (x : Station) (mail : ℕ → List Message) → System
+around ranks me n period tick x mail =
     record {
       ready = true;
       n = n;
@@ -47,6 +47,7 @@ around me n period tick x mail =
       sent = replicate 8 0;
       delays = replicate 64 0;
       links = upTo 64 (λ k. holding (mailed me mail (from k) (to k)));
+      ranks = ranks;
     }
 
 -- a link that holds messages has all its places
@@ -54,30 +55,31 @@ length-holding : (ms : List Message) → length ms ≤ places → length (holdin
 unfolding holding
 length-holding ms few = let e : length (replicate places unused) ≡ places = length-replicate places unused in length-over ms (replicate places unused) (omega arith) ∙ e
 
-module _ (me n period tick : ℕ) (x : Station) (mail : ℕ → List Message) where
-  around-at : (p : ℕ) → In 8 p → station (around me n period tick x mail) p ≡ stood me n x p
+module _ (ranks : List ℕ) (me n period tick : ℕ) (x : Station) (mail : ℕ → List Message) where
+  around-at : (p : ℕ) → In 8 p → station (around ranks me n period tick x mail) p ≡ stood me n x p
   around-at p h =
       let e : p - 1 + 1 ≡ p = omega (arith, h .low) in
       getD-upTo 8 (λ k. stood me n x (k + 1)) (p - 1) noStation (omega (arith, h .low, h .high)) ∙ ap (stood me n x) e
 
-  pub around-station : In 8 me → station (around me n period tick x mail) me ≡ x
+  pub around-station : In 8 me → station (around ranks me n period tick x mail) me ≡ x
   around-station h = around-at me h ∙ rw (eq-eqb me me refl)
 
-  around-down : (p : ℕ) → In 8 p → p ≢ me → station (around me n period tick x mail) p .up ≡ false
+  around-down : (p : ℕ) → In 8 p → p ≢ me → station (around ranks me n period tick x mail) p .up ≡ false
   around-down p h ne = ap (λ y. y .up) (around-at p h) ∙ rw (ne-eqb p me ne)
 
-  pub around-underway : (p : ℕ) → In 8 p → In 8 me → underway (around me n period tick x mail) p me ≡ mail p
+  pub around-underway : (p : ℕ) → In 8 p → In 8 me → underway (around ranks me n period tick x mail) p me ≡ mail p
   around-underway p hp hm =
       ap messages (at-link (λ a b. holding (mailed me mail a b)) p me noLink hp hm ∙ rw (eq-eqb me me refl)) ∙ messages-held (mail p)
 
-  -- its tables are full, if no sender has more messages than a link has places
-  pub around-full : ((p : ℕ) → length (mail p) ≤ places) → Full (around me n period tick x mail)
-  around-full few =
+  -- its tables are full, if the ranks are and no sender has more messages than a link has places
+  pub around-full : length ranks ≡ 8 → ((p : ℕ) → length (mail p) ≤ places) → Full (around ranks me n period tick x mail)
+  around-full eight few =
       record {
         stations = length-upTo 8 (λ k. stood me n x (k + 1));
         sent = length-replicate {A = ℕ} 8 0;
         delays = length-replicate {A = ℕ} 64 0;
         links = length-upTo 64 (λ k. holding (mailed me mail (from k) (to k)));
+        ranks = eight;
         each-link = λ k h. ap (λ l. length (l .messages)) (getD-upTo 64 (λ k. holding (mailed me mail (from k) (to k))) k noLink h) ∙ length-holding (mailed me mail (from k) (to k)) (some (from k) (to k));
       }
     where
@@ -88,19 +90,19 @@ module _ (me n period tick : ℕ) (x : Station) (mail : ℕ → List Message) wh
 pub inside-eight : (me n period : ℕ) → Ranges me n period → In 8 me
 inside-eight me n period r = record { low = r .me-low; high = omega (arith, r .me-high, r .n-high) }
 
-module _ (me n period tick : ℕ) (x : Station) (mail : ℕ → List Message) (f : fit me n period tick x ≡ true) where
+module _ (ranks : List ℕ) (me n period tick : ℕ) (x : Station) (mail : ℕ → List Message) (ranked : ranksIn n ranks ≡ true) (f : fit me n period tick x ≡ true) where
   abbrev given : Ranges me n period
   given = fit-ranges me n period tick x f .0
 
   abbrev made : System
-  made = around me n period tick x mail
+  made = around ranks me n period tick x mail
 
   wide : (p : ℕ) → In n p → In 8 p
   wide p h = widen n p (given .n-high) h
 
   -- each station fits, and there is none beyond n
   made-fits : (p : ℕ) → In n p → fit p n period tick (station made p) ≡ true
-  made-fits p h = rw (around-at me n period tick x mail p (wide p h)) (go (ℕ-discrete p me))
+  made-fits p h = rw (around-at ranks me n period tick x mail p (wide p h)) (go (ℕ-discrete p me))
     where
       go : Dec (p ≡ me) → fit p n period tick (stood me n x p) ≡ true
       go (yes e) = rw (eq-eqb p me e, e) f
@@ -124,7 +126,7 @@ module _ (me n period tick : ℕ) (x : Station) (mail : ℕ → List Message) (f
         go : Dec (q ≡ me) → Linked n period tick (station made p) (holding (mailed me mail p q))
         go (yes e) =
             rw (eq-eqb q me e)
-            (holding-linked n period tick (station made p) (mail p) (m .carried p .few) (m .carried p .spaced (station made p) (around-down me n period tick x mail p (wide p hp) (λ i. ne (i ∙ sym e)))))
+            (holding-linked n period tick (station made p) (mail p) (m .carried p .few) (m .carried p .spaced (station made p) (around-down ranks me n period tick x mail p (wide p hp) (λ i. ne (i ∙ sym e)))))
         go (no e) = rw (ne-eqb q me e) (empty-linked n period tick (station made p))
 
     unmailed : (p q : ℕ) → isLink n p q ≡ false → mailed me mail p q ≡ []
@@ -153,6 +155,7 @@ module _ (me n period tick : ℕ) (x : Station) (mail : ℕ → List Message) (f
           short = made-short;
           linked = made-linked;
           no-link = made-place;
+          ranked = ranked;
         })
         refl
 
@@ -168,23 +171,33 @@ module _ (me n period tick : ℕ) (x : Station) (mail : ℕ → List Message) (f
           high = given .me-high;
         }
 
+-- ranks as set up leaves them
+abbrev pub noRanks : List ℕ
+noRanks = replicate 8 0
+
+pub no-ranks : (n : ℕ) → ranksIn n noRanks ≡ true
+no-ranks n = of-ranks n noRanks (λ k h. omega (arith, zeros-at k))
+
+pub eight-ranks : length noRanks ≡ 8
+eight-ranks = length-replicate {A = ℕ} 8 0
+
 -- a command on station me finds the station there
 pub around-finds : (me n period tick : ℕ) (x : Station) → tick ≤ 1000000 → fit me n period tick x ≡ true → ByFull (Finds me n period tick x) (λ h. h .system)
 around-finds me n period tick x h f = (
   record {
-    system = around me n period tick x noMail;
-    holds = around-holds me n period tick x noMail f (no-mail me n period tick) h;
-    is-station = around-station me n period tick x noMail (inside-eight me n period (fit-ranges me n period tick x f .0));
+    system = around noRanks me n period tick x noMail;
+    holds = around-holds noRanks me n period tick x noMail (no-ranks n) f (no-mail me n period tick) h;
+    is-station = around-station noRanks me n period tick x noMail (inside-eight me n period (fit-ranges me n period tick x f .0));
   },
-  around-full me n period tick x noMail (λ p. omega arith),
+  around-full noRanks me n period tick x noMail eight-ranks (λ p. omega arith),
 )
 
 -- the tick now comes
-pub around-runs : (me n period now : ℕ) (x : Station) (mail : ℕ → List Message) → 1 ≤ now → now ≤ 1000000 → fit me n period (now - 1) x ≡ true → x .up ≡ true → Inbox me n period (now - 1) mail → Runs me n period now (around me n period (now - 1) x mail)
-around-runs me n period now x mail low high f u m =
+pub around-runs : (ranks : List ℕ) (me n period now : ℕ) (x : Station) (mail : ℕ → List Message) → 1 ≤ now → now ≤ 1000000 → ranksIn n ranks ≡ true → fit me n period (now - 1) x ≡ true → x .up ≡ true → Inbox me n period (now - 1) mail → Runs me n period now (around ranks me n period (now - 1) x mail)
+around-runs ranks me n period now x mail low high ranked f u m =
     record {
       low = low;
       high = high;
-      holds = around-holds me n period (now - 1) x mail f m (omega arith);
-      is-up = ap (λ y. y .up) (around-station me n period (now - 1) x mail (inside-eight me n period (fit-ranges me n period (now - 1) x f .0))) ∙ u;
+      holds = around-holds ranks me n period (now - 1) x mail ranked f m (omega arith);
+      is-up = ap (λ y. y .up) (around-station ranks me n period (now - 1) x mail (inside-eight me n period (fit-ranges me n period (now - 1) x f .0))) ∙ u;
     }

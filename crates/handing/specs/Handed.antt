@@ -39,10 +39,11 @@ pub record Runs (me n period now : ℕ) (s : System) : Type 0 where
   pub holds : Holds me n period (now - 1) s
   pub is-up : station s me .up ≡ true
 
--- in (a) of the tick now, station me is x when a message of q with the counts v comes up
-pub record Hears (me n period now q : ℕ) (v : List ℕ) (x : Station) : Type 0 where
+-- in (a) of the tick now, by the ranks, station me is x when a message of q with the counts v comes up
+pub record Hears (ranks : List ℕ) (me n period now q : ℕ) (v : List ℕ) (x : Station) : Type 0 where
   pub system : System
   pub runs : Runs me n period now system
+  pub same-ranks : system .ranks ≡ ranks
   pub sender-low : 1 ≤ q
   pub sender-high : q ≤ n
   pub other : q ≢ me
@@ -61,10 +62,11 @@ pub record Expires (me n period now : ℕ) (x : Station) : Type 0 where
   pub is-station : heardAll (hearing system) n me now (λ q. underway system q me) (station system me) ≡ x
   pub is-due : x .timer ≡ now
 
--- in (c) station me is x, and its send chance is due
-pub record Slots (me n period now : ℕ) (x : Station) : Type 0 where
+-- in (c), by the ranks, station me is x, and its send chance is due
+pub record Slots (ranks : List ℕ) (me n period now : ℕ) (x : Station) : Type 0 where
   pub system : System
   pub runs : Runs me n period now system
+  pub same-ranks : system .ranks ≡ ranks
   pub is-station : settled system me ≡ x
   pub is-due : x .slot ≡ now
 
@@ -79,6 +81,7 @@ pub record Full (s : System) : Type 0 where
   pub sent : length (s .sent) ≡ 8
   pub delays : length (s .delays) ≡ 64
   pub links : length (s .links) ≡ 64
+  pub ranks : length (s .ranks) ≡ 8
   pub each-link : (k : ℕ) → k < 64 → length (getD (s .links) k noLink .messages) ≡ places
 
 -- handed over by a system of full tables
@@ -100,7 +103,8 @@ CrashExact =
 
 abbrev pub HearExact : Type 0
 HearExact =
-    (me n period now q : ℕ) (v : List ℕ) (x : Station) → Eight x → Exactly (fitHear me n period now q v x ≡ true) (Hears me n period now q v x) (λ h. h .system)
+    (ranks : List ℕ) (me n period now q : ℕ) (v : List ℕ) (x : Station) → length ranks ≡ 8 → Eight x
+    → Exactly (fitHear ranks me n period now q v x ≡ true) (Hears ranks me n period now q v x) (λ h. h .system)
 
 abbrev pub ExpireExact : Type 0
 ExpireExact =
@@ -108,4 +112,5 @@ ExpireExact =
 
 abbrev pub SlotExact : Type 0
 SlotExact =
-    (me n period now : ℕ) (x : Station) → Eight x → Exactly (fitSlot me n period now x ≡ true) (Slots me n period now x) (λ h. h .system)
+    (ranks : List ℕ) (me n period now : ℕ) (x : Station) → length ranks ≡ 8 → Eight x
+    → Exactly (fitSlot ranks me n period now x ≡ true) (Slots ranks me n period now x) (λ h. h .system)

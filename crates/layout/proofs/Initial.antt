@@ -48,12 +48,12 @@ links-none m e =
 
 -- what set up leaves, from its parts
 pub set-up-is : (n period : ℕ) (xs : List Station) (ds : List ℕ) (m : Message) → xs ≡ initial n 0 .stations → ds ≡ initial n 0 .delays → m ≡ unused
-    → systemOf (record { ready = true; n = n; period = period; tick = 0; stations = xs; sent = replicate 8 0; delays = ds; used = replicate 64 0; messages = replicate (64 * places) m }) ≡ initial n period
+    → systemOf (record { ready = true; n = n; period = period; tick = 0; stations = xs; sent = replicate 8 0; delays = ds; used = replicate 64 0; messages = replicate (64 * places) m; ranks = replicate 8 0 }) ≡ initial n period
 unfolding initial
 set-up-is n period xs ds m a b e = rw (a, b, links-none m e) refl
 
 -- the fresh system, from its empty station and message
 pub fresh-is : (x : Station) (m : Message) → x ≡ unstarted 0 → m ≡ unused
-    → systemOf (record { ready = false; n = 0; period = 0; tick = 0; stations = replicate 8 x; sent = replicate 8 0; delays = replicate 64 0; used = replicate 64 0; messages = replicate (64 * places) m }) ≡ fresh
+    → systemOf (record { ready = false; n = 0; period = 0; tick = 0; stations = replicate 8 x; sent = replicate 8 0; delays = replicate 64 0; used = replicate 64 0; messages = replicate (64 * places) m; ranks = replicate 8 0 }) ≡ fresh
 unfolding fresh
 fresh-is x m a e = rw (a, links-none m e) refl

@@ -73,6 +73,7 @@ relaid stations sent delays used messages s =
       delays = delays;
       used = used;
       messages = messages;
+      ranks = s .ranks;
     }
 
 -- .. with one of these alone
@@ -90,6 +91,22 @@ withUsed us s = relaid (s .stations) (s .sent) (s .delays) us (s .messages) s
 
 abbrev pub withMessages : List Message → Layout → Layout
 withMessages ms s = relaid (s .stations) (s .sent) (s .delays) (s .used) ms s
+
+-- the layout with other ranks
+abbrev pub withRanks : List ℕ → Layout → Layout
+withRanks rs s =
+    record {
+      ready = s .ready;
+      n = s .n;
+      period = s .period;
+      tick = s .tick;
+      stations = s .stations;
+      sent = s .sent;
+      delays = s .delays;
+      used = s .used;
+      messages = s .messages;
+      ranks = rs;
+    }
 
 -- the places from `to` up to j are zero, and the others as they were
 pub record Clearing (k : ℕ) (s₀ s : Layout) (to j : ℕ) : Type 0 where

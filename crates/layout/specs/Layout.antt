@@ -30,4 +30,5 @@ systemOf s =
       sent = s .sent;
       delays = s .delays;
       links = linksOf (s .used) (s .messages);
+      ranks = s .ranks;
     }

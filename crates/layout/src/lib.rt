@@ -17,4 +17,5 @@ pub struct Layout {
     pub delays: [u8; 64],
     pub used: [u8; 64],
     pub messages: [Message; 64 * PLACES],
+    pub ranks: [u8; 8],
 }

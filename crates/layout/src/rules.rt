@@ -111,6 +111,7 @@ pub fn set_up(n: u8, period: u32) -> Layout
         delays,
         used: [0; 64],
         messages: [empty; 64 * PLACES],
+        ranks: [0; 8],
     }
 }
 
@@ -130,6 +131,7 @@ pub fn fresh() -> Layout
         delays: [0; 64],
         used: [0; 64],
         messages: [empty; 64 * PLACES],
+        ranks: [0; 8],
     }
 }
 
@@ -150,6 +152,7 @@ pub fn layout_of(s: System) -> Layout
     let stations = s.stations;
     let sent = s.sent;
     let delays = s.delays;
+    let ranks = s.ranks;
     Layout {
         ready: s.ready,
         n: s.n,
@@ -160,6 +163,7 @@ pub fn layout_of(s: System) -> Layout
         delays,
         used,
         messages,
+        ranks,
     }
 }
 
@@ -184,6 +188,7 @@ pub fn system_of(x: Layout) -> System
     let stations = x.stations;
     let sent = x.sent;
     let delays = x.delays;
+    let ranks = x.ranks;
     System {
         ready: x.ready,
         n: x.n,
@@ -193,5 +198,6 @@ pub fn system_of(x: Layout) -> System
         sent,
         delays,
         links,
+        ranks,
     }
 }

@@ -43,13 +43,13 @@ module _ (me n period tick : ℕ) (s : Station) where
   unfolding crashing
   crash-done e = rw e
 
-  pub hear-unfit : (q : ℕ) (v : List ℕ) → fitHear me n period tick q v s ≡ false → hearing me n period tick q v s ≡ turnedDown 15 s
+  pub hear-unfit : (ranks : List ℕ) (q : ℕ) (v : List ℕ) → fitHear ranks me n period tick q v s ≡ false → hearing ranks me n period tick q v s ≡ turnedDown 15 s
   unfolding hearing
-  hear-unfit q v e = rw e
+  hear-unfit ranks q v e = rw e
 
-  pub hear-done : (q : ℕ) (v : List ℕ) → fitHear me n period tick q v s ≡ true → hearing me n period tick q v s ≡ done false (heard me q v tick s)
+  pub hear-done : (ranks : List ℕ) (q : ℕ) (v : List ℕ) → fitHear ranks me n period tick q v s ≡ true → hearing ranks me n period tick q v s ≡ done false (heard ranks me q v tick s)
   unfolding hearing
-  hear-done q v e = rw e
+  hear-done ranks q v e = rw e
 
   pub expire-unfit : fitExpire me n period tick s ≡ false → expiring me n period tick s ≡ turnedDown 15 s
   unfolding expiring
@@ -59,10 +59,10 @@ module _ (me n period tick : ℕ) (s : Station) where
   unfolding expiring
   expire-done e = rw e
 
-  pub slot-unfit : fitSlot me n period tick s ≡ false → slotting me n period tick s ≡ turnedDown 15 s
+  pub slot-unfit : (ranks : List ℕ) → fitSlot ranks me n period tick s ≡ false → slotting ranks me n period tick s ≡ turnedDown 15 s
   unfolding slotting
-  slot-unfit e = rw e
+  slot-unfit ranks e = rw e
 
-  pub slot-done : fitSlot me n period tick s ≡ true → slotting me n period tick s ≡ done (sends me s) (slotted period tick s)
+  pub slot-done : (ranks : List ℕ) → fitSlot ranks me n period tick s ≡ true → slotting ranks me n period tick s ≡ done (sends me s) (slotted period tick s)
   unfolding slotting
-  slot-done e = rw e
+  slot-done ranks e = rw e

@@ -34,16 +34,16 @@ starting me n period tick s =
 unfoldable pub crashing : ℕ → ℕ → ℕ → ℕ → Station → Operation
 crashing me n period tick s = operation (firstFailed ((fitCrash me n period tick s, 15) ∷ [])) false (crashed s) s
 
-unfoldable pub hearing : ℕ → ℕ → ℕ → ℕ → ℕ → List ℕ → Station → Operation
-hearing me n period tick q v s =
-    operation (firstFailed ((fitHear me n period tick q v s, 15) ∷ [])) false (heard me q v tick s) s
+unfoldable pub hearing : List ℕ → ℕ → ℕ → ℕ → ℕ → ℕ → List ℕ → Station → Operation
+hearing ranks me n period tick q v s =
+    operation (firstFailed ((fitHear ranks me n period tick q v s, 15) ∷ [])) false (heard ranks me q v tick s) s
 
 unfoldable pub expiring : ℕ → ℕ → ℕ → ℕ → Station → Operation
 expiring me n period tick s = operation (firstFailed ((fitExpire me n period tick s, 15) ∷ [])) false (expired me s) s
 
-unfoldable pub slotting : ℕ → ℕ → ℕ → ℕ → Station → Operation
-slotting me n period tick s =
-    operation (firstFailed ((fitSlot me n period tick s, 15) ∷ [])) (sends me s) (slotted period tick s) s
+unfoldable pub slotting : List ℕ → ℕ → ℕ → ℕ → ℕ → Station → Operation
+slotting ranks me n period tick s =
+    operation (firstFailed ((fitSlot ranks me n period tick s, 15) ∷ [])) (sends me s) (slotted period tick s) s
 
 -- document 01's number for each answer
 abbrev pub refusalOf : Answer → ℕ

@@ -1,4 +1,5 @@
-// The open operations of one station: each tests what it is handed, and refuses or does what the rule says.
+// The open operations of one station: each tests what it is handed, and refuses or does what the rule says. Where candidates are compared,
+// the ranks of all stations are handed over too, station 1 first; a station holds none.
 ghost use mathlib.Core.Path.{_≡_};
 ghost use mathlib.Core.Bool.{false};
 ghost use Rattle.operations.specs.Operations.{refusalOf, said, starting, crashing, hearing, expiring, slotting};
@@ -70,13 +71,22 @@ pub fn crash(me: u8, n: u8, period: u32, tick: u32, s: Station) -> Outcome
 }
 
 // Has station me of n hear LEADER from q, with the counts v, in a tick.
-pub fn hear(me: u8, n: u8, period: u32, tick: u32, q: u8, v: [u16; 8], s: Station) -> Outcome
-    ensures { λ r. ⌜ said r ≡ hearing me n period tick q v s ⌝ }
+pub fn hear(
+    ranks: [u8; 8],
+    me: u8,
+    n: u8,
+    period: u32,
+    tick: u32,
+    q: u8,
+    v: [u16; 8],
+    s: Station,
+) -> Outcome
+    ensures { λ r. ⌜ said r ≡ hearing ranks me n period tick q v s ⌝ }
 {
-    if !fit::fit_hear(me, n, period, tick, q, v, s) {
+    if !fit::fit_hear(ranks, me, n, period, tick, q, v, s) {
         return refused(Answer::Unfit, s);
     }
-    accepted(false, rules::hear(me, q, v, tick, s))
+    accepted(false, rules::hear(ranks, me, q, v, tick, s))
 }
 
 // Ends the timer of station me of n in a tick.
@@ -90,10 +100,10 @@ pub fn expire(me: u8, n: u8, period: u32, tick: u32, s: Station) -> Outcome
 }
 
 // Gives station me of n its send chance in a tick.
-pub fn slot(me: u8, n: u8, period: u32, tick: u32, s: Station) -> Outcome
-    ensures { λ r. ⌜ said r ≡ slotting me n period tick s ⌝ }
+pub fn slot(ranks: [u8; 8], me: u8, n: u8, period: u32, tick: u32, s: Station) -> Outcome
+    ensures { λ r. ⌜ said r ≡ slotting ranks me n period tick s ⌝ }
 {
-    if !fit::fit_slot(me, n, period, tick, s) {
+    if !fit::fit_slot(ranks, me, n, period, tick, s) {
         return refused(Answer::Unfit, s);
     }
     accepted(s.leader == me, rules::slot(period, tick, s))

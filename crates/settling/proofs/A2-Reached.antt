@@ -2,6 +2,7 @@
 use mathlib.Core.Path.{_≡_, refl, sym, _∙_}
 use mathlib.Core.Logic.{_≢_}
 use mathlib.Core.Bool.{Bool, true, false}
+use mathlib.Core.List.{List}
 use Prim.Native.Nat.{ℕ, _+_, _≤_, _<_}
 use native.Mathlib.Omega.{arith}
 use native.Mathlib.Nat.{le-of-eq}
@@ -9,7 +10,9 @@ use Rattle.lists.specs.Every.{All}
 use Rattle.lists.proofs.Every.{all-map, all-append}
 use Rattle.station.specs.Order.{entry}
 use Rattle.station.specs.declared.Station.{Station}
+use Rattle.station.proofs.Candidates.{Ranked}
 use Rattle.station.proofs.Unchanged.{Unchanged}
+use Rattle.fit.proofs.Tests.{ranked-of}
 use Rattle.election.specs.Heads.{hearing}
 use Rattle.election.specs.System.{station, underway}
 use Rattle.election.specs.Tick.{next, settled, later, sent, underwayAfter, tick}
@@ -33,33 +36,36 @@ Low s m = (x : ℕ) → In (s .n) x → entry (m .counts) x ≤ counts s x
 
 pub record Reached (s : System) : Type 0 where
   pub sound : Sound s
-  pub heads : (p : ℕ) → In (s .n) p → station s p .up ≡ true → Sane (s .n) (s .period) always (counts s) p (s .tick + 1) (station s p)
+  pub heads : (p : ℕ) → In (s .n) p → station s p .up ≡ true → Sane (s .ranks) (s .n) (s .period) always (counts s) p (s .tick + 1) (station s p)
   pub paced : (p : ℕ) → In (s .n) p → station s p .up ≡ true → station s p .recovering ≡ false → station s p .slot ≤ s .tick + s .period
   pub mail : (q p : ℕ) → In (s .n) q → In (s .n) p → q ≢ p → All (Low s) (underway s q p)
 
 -- counts that only rise
-pub recount : (n period : ℕ) (C C′ : ℕ → ℕ) (p b : ℕ) (x : Station) → In n p → ((y : ℕ) → In n y → C y ≤ C′ y) → C p ≡ C′ p → Sane n period always C p b x → Sane n period always C′ p b x
-recount n period C C′ p b x ip le e h =
+pub recount : (ranks : List ℕ) (n period : ℕ) (C C′ : ℕ → ℕ) (p b : ℕ) (x : Station) → In n p → ((y : ℕ) → In n y → C y ≤ C′ y) → C p ≡ C′ p → Sane ranks n period always C p b x → Sane ranks n period always C′ p b x
+recount ranks n period C C′ p b x ip le e h =
     record { own = h .own ∙ e; low = λ q iq t. omega (arith, h .low q iq t, le q iq); range = h .range; ahead = h .ahead; slow = h .slow; on = h .on; off = h .off }
 
 module _ (s : System) (h : Reached s) where
   abbrev small : s .n ≤ 8
   small = h .sound .n-high
 
+  ranked : Ranked (s .ranks)
+  ranked = ranked-of (s .n) (s .ranks) (h .sound .ranked)
+
   -- after (a) and (b)
-  pub settled-sane : (p : ℕ) → In (s .n) p → station s p .up ≡ true → Sane (s .n) (s .period) always (counts s) p (next s + 1) (settled s p)
+  pub settled-sane : (p : ℕ) → In (s .n) p → station s p .up ≡ true → Sane (s .ranks) (s .n) (s .period) always (counts s) p (next s + 1) (settled s p)
   settled-sane p ip u =
       rw (settled-up s p u)
-      (expire-sane (s .n) (s .period) small always (counts s) p ip (next s) _ (omega arith)
-      (all-keeps (hearing s) (Sane (s .n) (s .period) always (counts s) p (next s)) (λ q m. (q ≢ p) × Low s m) (s .n) p (next s) (λ q. underway s q p)
-      (λ q m y iq f. hear-sane (s .n) (s .period) small always (counts s) p ip (next s) q (m .counts) y refl iq (f .0) (λ x ix t. f .1 x ix))
+      (expire-sane (s .ranks) ranked (s .n) (s .period) small always (counts s) p ip (next s) _ (omega arith)
+      (all-keeps (hearing s) (Sane (s .ranks) (s .n) (s .period) always (counts s) p (next s)) (λ q m. (q ≢ p) × Low s m) (s .n) p (next s) (λ q. underway s q p)
+      (λ q m y iq f. hear-sane (s .ranks) ranked (s .n) (s .period) small always (counts s) p ip (next s) q (m .counts) y refl iq (f .0) (λ x ix t. f .1 x ix))
       (λ q iq. all-map (λ m. (q ≢ p) × Low s m) _ (λ m f e. f) (underway s q p) (inbox-all s (h .sound) (λ q. Low s) p ip (λ q iq ne. h .mail q p iq ip ne) q iq))
       (station s p) (h .heads p ip u)))
 
-  heads′ : (p : ℕ) → In (s .n) p → station (tick s) p .up ≡ true → Sane (s .n) (s .period) always (counts (tick s)) p (next s + 1) (station (tick s) p)
+  heads′ : (p : ℕ) → In (s .n) p → station (tick s) p .up ≡ true → Sane (s .ranks) (s .n) (s .period) always (counts (tick s)) p (next s + 1) (station (tick s) p)
   heads′ p ip u =
-      recount (s .n) (s .period) (counts s) (counts (tick s)) p (next s + 1) (station (tick s) p) ip (λ x ix. le-of-eq (sym (tick-count s small x ix))) (sym (tick-count s small p ip))
-      (rw (tick-station s small p ip) (slot-sane (s .n) (s .period) small always (counts s) p ip (next s + 1) (next s) (settled s p) (settled-sane p ip (sym (tick-up s small p ip) ∙ u))))
+      recount (s .ranks) (s .n) (s .period) (counts s) (counts (tick s)) p (next s + 1) (station (tick s) p) ip (λ x ix. le-of-eq (sym (tick-count s small x ix))) (sym (tick-count s small p ip))
+      (rw (tick-station s small p ip) (slot-sane (s .ranks) ranked (s .n) (s .period) small always (counts s) p ip (next s + 1) (next s) (settled s p) (settled-sane p ip (sym (tick-up s small p ip) ∙ u))))
 
   paced′ : (p : ℕ) → In (s .n) p → station (tick s) p .up ≡ true → station (tick s) p .recovering ≡ false → station (tick s) p .slot ≤ next s + s .period
   paced′ p ip u =

@@ -7,29 +7,33 @@ use Prim.Native.Nat.{ℕ, _+_, _-_, _≤_, _<_}
 use native.Mathlib.Decide.{ℕ-discrete}
 use native.Mathlib.Nat.{le-refl}
 use native.Mathlib.Omega.{arith}
-use lib.ListN.{getD-replicate}
-use borrow.Author.Tests.{ne-eqb, eq-eqb}
+use lib.ListN.{getD, getD-replicate}
+use lib.Dec.{eqb}
+use borrow.Author.Tests.{ne-eqb, eq-eqb, eqb-true}
 use Rattle.fit.specs.Fit.{longestDelay}
 use Rattle.lists.specs.Every.{All}
 use Rattle.lists.specs.First.{firstFailed}
 use Rattle.lists.proofs.Every.{all-map}
 use Rattle.lists.proofs.Sets.{set-keeps}
+use Rattle.lists.proofs.Test.{all-at}
+use Rattle.station.specs.Limits.{mostRank}
 use Rattle.station.specs.Order.{entry}
 use Rattle.station.specs.Rules.{started, crashed}
 use Rattle.station.specs.declared.Station.{Station}
+use Rattle.station.proofs.Candidates.{Ranked}
 use Rattle.station.proofs.Elimination.{started-elim}
 use Rattle.station.proofs.Fields.{started-count, started-recovering, crashed-count, crashed-up}
-use Rattle.fit.proofs.Tests.{fit-ranges}
+use Rattle.fit.proofs.Tests.{ranked-of, fit-ranges, fit-of}
 use Rattle.station.proofs.Vectors.{other-of}
-use Rattle.election.specs.Commands.{Command, SetUp, Start, Crash, Link, Run, Lose, Report, tests, perform}
-use Rattle.election.specs.System.{withStation, withDelay, withoutMessages, noLink, station, place, messages, holding, underway, fresh, initial}
+use Rattle.election.specs.Commands.{Command, SetUp, Start, Crash, Link, Run, Lose, Report, Rank, noneStarted, tests, perform}
+use Rattle.election.specs.System.{withStation, withDelay, withoutMessages, withRank, noStation, noLink, station, place, messages, holding, underway, fresh, initial}
 use Rattle.election.specs.Sound.{sound}
 use Rattle.election.specs.Tick.{ticks}
 use Rattle.election.specs.declared.Message.{Message}
 use Rattle.election.specs.declared.System.{System}
 use Rattle.election.proofs.Accepting.{Accepts, accepts}
-use Rattle.settling.proofs.A1-Sane.{Sane}
-use Rattle.election.proofs.Changes.{start-sound, crash-sound, delay-sound, lose-sound, changed-same, changed-other}
+use Rattle.settling.proofs.A1-Sane.{rank-high, Sane}
+use Rattle.election.proofs.Changes.{start-sound, crash-sound, delay-sound, lose-sound, rank-sound, changed-same, changed-other}
 use Rattle.election.proofs.InitialSound.{fresh-sound, initial-station, initial-sound}
 use Rattle.election.proofs.KeepsSound.{perform-keeps}
 use Rattle.election.proofs.Places.{In, place-in, widen, same-place}
@@ -49,7 +53,7 @@ module _ (s : System) (f : Sound s) (p : ℕ) (ip : In (s .n) p) (x : Station) w
   other-there = changed-other s f p ip x
 
   pub changed-reached : Reached s → Sound (withStation p x s) → counts s p ≤ x .incarnation
-      → (x .up ≡ true → (C : ℕ → ℕ) → C p ≡ x .incarnation → Sane (s .n) (s .period) always C p (s .tick + 1) x)
+      → (x .up ≡ true → (C : ℕ → ℕ) → C p ≡ x .incarnation → Sane (s .ranks) (s .n) (s .period) always C p (s .tick + 1) x)
       → (x .up ≡ true → x .recovering ≡ false → x .slot ≤ s .tick + s .period)
       → Reached (withStation p x s)
   changed-reached h snd rises sane paced =
@@ -67,11 +71,11 @@ module _ (s : System) (f : Sound s) (p : ℕ) (ip : In (s .n) p) (x : Station) w
           go (yes e) = rw (e, same-here) rises
           go (no ne) = rw (other-there y (iy .low) ne) (le-refl (counts s y))
 
-      go-heads : (r : ℕ) → In (s .n) r → Dec (r ≡ p) → station (withStation p x s) r .up ≡ true → Sane (s .n) (s .period) always (counts (withStation p x s)) r (s .tick + 1) (station (withStation p x s) r)
+      go-heads : (r : ℕ) → In (s .n) r → Dec (r ≡ p) → station (withStation p x s) r .up ≡ true → Sane (s .ranks) (s .n) (s .period) always (counts (withStation p x s)) r (s .tick + 1) (station (withStation p x s) r)
       go-heads r ir (yes e) = rw (e, same-here) (λ u. sane u (counts (withStation p x s)) (ap (λ (y : Station). y .incarnation) same-here))
       go-heads r ir (no ne) =
           let same : station (withStation p x s) r ≡ station s r = other-there r (ir .low) ne in
-          λ u. recount (s .n) (s .period) (counts s) (counts (withStation p x s)) r (s .tick + 1) (station (withStation p x s) r) ir up-to (ap (λ (y : Station). y .incarnation) (sym same))
+          λ u. recount (s .ranks) (s .n) (s .period) (counts s) (counts (withStation p x s)) r (s .tick + 1) (station (withStation p x s) r) ir up-to (ap (λ (y : Station). y .incarnation) (sym same))
           (rw same (h .heads r ir (ap (λ (y : Station). y .up) (sym same) ∙ u)))
 
       go-paced : (r : ℕ) → In (s .n) r → Dec (r ≡ p) → station (withStation p x s) r .up ≡ true → station (withStation p x s) r .recovering ≡ false → station (withStation p x s) r .slot ≤ s .tick + s .period
@@ -79,9 +83,9 @@ module _ (s : System) (f : Sound s) (p : ℕ) (ip : In (s .n) p) (x : Station) w
       go-paced r ir (no ne) = rw (other-there r (ir .low) ne) (h .paced r ir)
 
 -- a station that starts
-start-sane : (n period tick : ℕ) → n ≤ 8 → (p : ℕ) → In n p → (x : Station) → In n (x .stable) → (C : ℕ → ℕ) → C p ≡ x .incarnation + 1 → Sane n period always C p (tick + 1) (started p n period tick x)
-start-sane n period tick small p ip x st C e =
-    started-elim (Sane n period always C p (tick + 1)) p n period tick x (ip .low) (omega (arith, ip .high))
+start-sane : (ranks : List ℕ) → Ranked ranks → (n period tick : ℕ) → n ≤ 8 → (p : ℕ) → In n p → (x : Station) → In n (x .stable) → (C : ℕ → ℕ) → C p ≡ x .incarnation + 1 → Sane ranks n period always C p (tick + 1) (started p n period tick x)
+start-sane ranks ranked n period tick small p ip x st C e =
+    started-elim (Sane ranks n period always C p (tick + 1)) p n period tick x (ip .low) (omega (arith, ip .high))
     (λ v t sv sz own zeros times.
     let waits : (q : ℕ) → In n q → q ≢ p → entry t q ≡ period + (x .incarnation + 1) =
     λ q iq ne. times (q - 1) (omega (arith, iq .low, iq .high)) ∙ ap (λ b. cond b (period + (x .incarnation + 1)) 0) (other-of p n q (iq .low) (iq .high) ne) in
@@ -90,7 +94,7 @@ start-sane n period tick small p ip x st C e =
       own = own ∙ sym e;
       low = λ q iq u. low v C own e none q iq (ℕ-discrete q p);
       range = st;
-      ahead = λ ne. omega (arith, none (x .stable) st ne, st .high, ip .low);
+      ahead = λ ne. omega (arith, none (x .stable) st ne, st .high, ip .low, rank-high ranks ranked n small (x .stable) st);
       slow = λ q iq ne. omega (arith, waits q iq ne);
       on = λ ne. rw (ne-eqb (x .stable) p ne) (omega (arith, waits (x .stable) st ne));
       off = λ i. rw (eq-eqb (x .stable) p i);
@@ -106,7 +110,7 @@ start-reached s h p ip few =
     let st : In (s .n) (station s p .stable) = record { low = k .low; high = k .high } in
     let rises : started p (s .n) (s .period) (s .tick) (station s p) .incarnation ≡ station s p .incarnation + 1 = started-count p (s .n) (s .period) (s .tick) (station s p) in
     changed-reached s (h .sound) p ip (started p (s .n) (s .period) (s .tick) (station s p)) h (start-sound s (h .sound) p ip few) (omega (arith, rises))
-    (λ u C e. start-sane (s .n) (s .period) (s .tick) (h .sound .n-high) p ip (station s p) st C (e ∙ rises))
+    (λ u C e. start-sane (s .ranks) (ranked-of (s .n) (s .ranks) (h .sound .ranked)) (s .n) (s .period) (s .tick) (h .sound .n-high) p ip (station s p) st C (e ∙ rises))
     (λ u w. absurd (true≢false (sym (started-recovering p (s .n) (s .period) (s .tick) (station s p)) ∙ w)))
 
 pub crash-reached : (s : System) → Reached s → (p : ℕ) → In (s .n) p → station s p .up ≡ true → Reached (withStation p (crashed (station s p)) s)
@@ -136,6 +140,21 @@ lose-reached s h a b ia ib ne =
 pub delay-reached : (s : System) → Reached s → (a b d : ℕ) → In (s .n) a → In (s .n) b → a ≢ b → d ≤ longestDelay → Reached (withDelay a b d s)
 delay-reached s h a b d ia ib ne few =
     record { sound = delay-sound s (h .sound) a b ia ib ne d few; heads = h .heads; paced = h .paced; mail = h .mail }
+
+-- a rank is set while no head was ever started, so that none is up
+nobody-up : (s : System) → Sound s → noneStarted (s .stations) ≡ true → (p : ℕ) → In (s .n) p → station s p .up ≡ true → ⊥
+nobody-up s f none p ip u =
+    let zero : station s p .incarnation ≡ 0 = eqb-true _ 0 (all-at 8 (p - 1) (λ k. eqb (getD (s .stations) k noStation .incarnation) 0) none (omega (arith, ip .low, ip .high, f .n-high))) in
+    omega (arith, fit-of p (s .n) (s .period) (s .tick) (station s p) (f .fits p ip) u .0 .living .count)
+
+pub rank-reached : (s : System) → Reached s → (p r : ℕ) → In (s .n) p → r ≤ mostRank → noneStarted (s .stations) ≡ true → Reached (withRank p r s)
+rank-reached s h p r ip few none =
+    record {
+      sound = rank-sound s (h .sound) p r ip few;
+      heads = λ q iq u. absurd (nobody-up s (h .sound) none q iq u);
+      paced = h .paced;
+      mail = h .mail;
+    }
 
 pub ticks-reached : (t : ℕ) (s : System) → s .tick + t ≤ 1000000 → Reached s → Reached (ticks t s)
 ticks-reached = ticks-keep Reached tick-reached
@@ -167,6 +186,7 @@ performed (Link p q d) s (r, i, j, ne, few) h = delay-reached s (h r) p q d i j 
 performed (Run t) s (r, l, room) h = ticks-reached t s room (h r)
 performed (Lose p q) s (r, i, j, ne) h = lose-reached s (h r) p q i j ne
 performed Report s r h = h r
+performed (Rank p x) s (r, i, few, none) h = rank-reached s (h r) p x i few none
 
 pub perform-arrived : (c : Command) (s : System) → firstFailed (tests s c) ≡ 0 → Arrived s → Arrived (perform c s)
 perform-arrived c s t h = record { is-sound = perform-keeps c s (h .is-sound) t; reached = λ r. performed c s (accepts c s t) (h .reached) }

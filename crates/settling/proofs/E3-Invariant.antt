@@ -15,12 +15,12 @@ use Rattle.lists.proofs.Every.{all-map, all-append}
 use Rattle.station.specs.Order.{entry}
 use Rattle.station.specs.Rules.{slotted}
 use Rattle.station.specs.declared.Station.{Station}
-use Rattle.station.proofs.Candidates.{key, keyOf}
+use Rattle.station.proofs.Candidates.{keyOf}
 use Rattle.election.specs.System.{station, delay, underway}
 use Rattle.election.specs.Tick.{next, slottedNow, settled, sending, later, sent, underwayAfter, tick}
 use Rattle.election.specs.declared.Message.{Message}
 use Rattle.election.specs.declared.System.{System}
-use Rattle.settling.proofs.B-Calm.{Stretch, keyL, Calm, expire-calm, calm-self}
+use Rattle.settling.proofs.B-Calm.{Stretch, keyAt, keyL, rank-low, Calm, expire-calm, calm-self}
 use Rattle.settling.proofs.A1-Sane.{Known, Sane}
 use Rattle.settling.proofs.D-Deadline.{soonest, soonest-le, soonest-mono, soonest-append, deadline}
 use Rattle.settling.proofs.E2-Follower.{Due, due?, FairTo, spare, ticked, all-calm, ticked-calm, move-hit, move-quiet}
@@ -35,7 +35,7 @@ use Rattle.election.proofs.Underway.{inbox-all, later-all, later-none, sent-all
 pub record Coming (K : Stretch) (tick q : ℕ) (m : Message) : Type 0 where
   pub ahead : tick < m .due
   pub low : Known (K .n) (K .steady) (K .C) (m .counts)
-  pub old : q ≢ K .L → keyOf (m .counts) q ≤ keyL K → m .due ≤ K .since + K .d
+  pub old : q ≢ K .L → keyOf (K .ranks) (m .counts) q ≤ keyL K → m .due ≤ K .since + K .d
 
 abbrev pub END : Stretch → ℕ
 END K = K .since + K .W + K .M + 3 * K .d + K .period
@@ -46,11 +46,12 @@ phase K s p = Phase (K .d) (END K) (s .tick) (station s p .timer) (spare K (stat
 pub record Inv (K : Stretch) (s : System) : Type 0 where
   pub same-n : s .n ≡ K .n
   pub same-period : s .period ≡ K .period
+  pub same-ranks : s .ranks ≡ K .ranks
   pub reached : Reached s
   pub ups : (p : ℕ) → In (K .n) p → K .steady p ≡ true → station s p .up ≡ true
   pub const : (x : ℕ) → In (K .n) x → K .steady x ≡ true → counts s x ≡ K .C x
   pub surplus : (p : ℕ) → In (K .n) p → station s p .up ≡ true → K .steady p ≡ false → K .C (K .L) < counts s p
-  pub least : (p : ℕ) → In (K .n) p → K .steady p ≡ true → keyL K ≤ key (K .C p) p
+  pub least : (p : ℕ) → In (K .n) p → K .steady p ≡ true → keyL K ≤ keyAt K p
   pub calm : (p : ℕ) → In (K .n) p → K .steady p ≡ true → Calm K p (s .tick + 1) (station s p)
   pub mail : (q p : ℕ) → In (K .n) q → In (K .n) p → q ≢ p → K .steady p ≡ true → All (Coming K (s .tick) q) (underway s q p)
   pub next-lo : s .tick < station s (K .L) .slot
@@ -73,10 +74,11 @@ module _ (K : Stretch) (s : System) (h : Inv K s) where
   pub station-next : (p : ℕ) → In (K .n) p → station (tick s) p ≡ slottedNow (slotted (K .period) (next s)) (next s) (settled s p)
   station-next p i = tick-station s n-high p (in-s p i) ∙ ap (λ b. slottedNow (slotted b (next s)) (next s) (settled s p)) (h .same-period)
 
-  pub steady-next : (p : ℕ) → In (K .n) p → K .steady p ≡ true → station (tick s) p ≡ ticked (K .n) (K .period) p (next s) (λ q. underway s q p) (station s p)
+  pub steady-next : (p : ℕ) → In (K .n) p → K .steady p ≡ true → station (tick s) p ≡ ticked (K .ranks) (K .n) (K .period) p (next s) (λ q. underway s q p) (station s p)
   steady-next p i u =
       station-next p i ∙ ap (slottedNow (slotted (K .period) (next s)) (next s)) (settled-up s p (h .ups p i u))
-      ∙ ap (λ n. ticked n (K .period) p (next s) (λ q. underway s q p) (station s p)) (h .same-n)
+      ∙ ap (λ n. ticked (s .ranks) n (K .period) p (next s) (λ q. underway s q p) (station s p)) (h .same-n)
+      ∙ ap (λ r. ticked r (K .n) (K .period) p (next s) (λ q. underway s q p) (station s p)) (h .same-ranks)
 
   fair : (p : ℕ) → In (K .n) p → K .steady p ≡ true → (q : ℕ) → In (K .n) q → FairTo K p (next s) q (underway s q p)
   fair p ip u q iq =
@@ -86,23 +88,23 @@ module _ (K : Stretch) (s : System) (h : Inv K s) where
   -- After steps (a) and (b).
   settled-calm : (p : ℕ) → In (K .n) p → K .steady p ≡ true → Calm K p (next s + 1) (settled s p)
   settled-calm p ip u =
-      rw (settled-up s p (h .ups p ip u), h .same-n)
+      rw (settled-up s p (h .ups p ip u), h .same-n, h .same-ranks)
       (expire-calm K p ip u (h .least p ip u) (next s) _ (omega arith) (all-calm K p (next s) (omega arith) ip u (h .least p ip u) (λ q. underway s q p) (fair p ip u) (station s p) (h .calm p ip u)))
 
   -- What an up head other than L sends is late: a steady one is after L, any other has more starts.
-  after-L : (q : ℕ) → In (K .n) q → station s q .up ≡ true → (v : List ℕ) → entry v q ≡ counts s q → q ≢ K .L → keyOf v q ≤ keyL K → ⊥
+  after-L : (q : ℕ) → In (K .n) q → station s q .up ≡ true → (v : List ℕ) → entry v q ≡ counts s q → q ≢ K .L → keyOf (K .ranks) v q ≤ keyL K → ⊥
   after-L q iq u v own ne le = go (K .steady q) refl
     where
       go : (b : Bool) → K .steady q ≡ b → ⊥
-      go true e = omega (arith, h .const q iq e, h .least q iq e, iq .high, K .L-in .high, K .small)
-      go false e = omega (arith, h .surplus q iq u e, iq .high, K .L-in .high, K .small)
+      go true e = omega (arith, h .const q iq e, h .least q iq e, iq .high, K .L-in .high, K .small, rank-low K q iq, rank-low K (K .L) (K .L-in))
+      go false e = omega (arith, h .surplus q iq u e, iq .high, K .L-in .high, K .small, rank-low K q iq, rank-low K (K .L) (K .L-in))
 
   sent-mail : (q p : ℕ) → In (K .n) q → All (Coming K (next s) q) (sent s q p)
   sent-mail q p iq =
       sent-all (Coming K (next s) q) s q p
       (λ e d.
       let u : station s q .up ≡ true = sending-of s q e .0 in
-      let c : Sane (s .n) (s .period) always (counts s) q (next s + 1) (settled s q) = settled-sane s (h .reached) q (in-s q iq) u in
+      let c : Sane (s .ranks) (s .n) (s .period) always (counts s) q (next s + 1) (settled s q) = settled-sane s (h .reached) q (in-s q iq) u in
       record { ahead = omega arith; low = λ x ix Sx. omega (arith, c .low x (in-s x ix) refl, h .const x ix Sx); old = λ ne le. absurd (after-L q iq u (settled s q .recovered) (c .own) ne le) })
 
   -- The next send chance of L after the tick.
@@ -182,8 +184,8 @@ module _ (K : Stretch) (s : System) (h : Inv K s) where
 
         go : Due (next s) (underway s (K .L) p) ⊎ All (λ (m : Message). m .due ≢ next s) (underway s (K .L) p)
             → Move (K .period) (K .d) (END K) (next s) (station s p .timer) (spare K (station s p)) (deadline K s p)
-            (ticked (K .n) (K .period) p (next s) (λ q. underway s q p) (station s p) .timer) (spare K (ticked (K .n) (K .period) p (next s) (λ q. underway s q p) (station s p))) dl′
-            (eqb (station s p .leader) (K .L)) (eqb (ticked (K .n) (K .period) p (next s) (λ q. underway s q p) (station s p) .leader) (K .L))
+            (ticked (K .ranks) (K .n) (K .period) p (next s) (λ q. underway s q p) (station s p) .timer) (spare K (ticked (K .ranks) (K .n) (K .period) p (next s) (λ q. underway s q p) (station s p))) dl′
+            (eqb (station s p .leader) (K .L)) (eqb (ticked (K .ranks) (K .n) (K .period) p (next s) (λ q. underway s q p) (station s p) .leader) (K .L))
         go (inl g) =
             move-hit K p (next s) (omega arith) ip u (h .least p ip u) (λ q. underway s q p) (fair p ip u) pL late (station s p) (h .calm p ip u) (END K) (deadline K s p) dl′ g
             (far (decLe (station s (K .L) .slot) (K .since + K .W)))
@@ -220,6 +222,7 @@ module _ (K : Stretch) (s : System) (h : Inv K s) where
         record {
           same-n = h .same-n;
           same-period = h .same-period;
+          same-ranks = h .same-ranks;
           reached = tick-reached s (h .reached) room;
           ups = λ p ip u. tick-up s n-high p (in-s p ip) ∙ h .ups p ip u;
           const = λ x ix Sx. tick-count s n-high x (in-s x ix) ∙ h .const x ix Sx;

@@ -1,23 +1,22 @@
 -- G. The invariant holds where a quiet stretch begins.
 use mathlib.Core.Path.{_≡_, refl, sym, _∙_}
-use mathlib.Core.Logic.{_≢_, _⊎_}
-use mathlib.Core.Logic._⊎_.{inl, inr}
+use mathlib.Core.Logic.{_≢_}
 use mathlib.Core.Bool.{true≢false, Bool, true, false, cond, _&&_}
 use Prim.Native.Nat.{ℕ, _+_, _-_, _*_, _≤_, _<_, max}
 use native.Mathlib.Decide.{ℕ-discrete}
 use native.Mathlib.Omega.{arith}
 use lib.Dec.{eqb}
-use borrow.Author.Tests.{ne-eqb}
+use borrow.Author.Tests.{ne-eqb, ltb-true}
 use Rattle.lists.specs.Largest.{maxTo}
 use Rattle.lists.proofs.Every.{all-both}
 use Rattle.lists.proofs.Largest.{max-least}
-use Rattle.station.specs.Order.{entry}
-use Rattle.station.proofs.Candidates.{key, keyOf}
-use Rattle.fit.proofs.Tests.{fit-of}
+use Rattle.station.specs.Order.{entry, before}
+use Rattle.station.proofs.Candidates.{keyOf, before-key}
+use Rattle.fit.proofs.Tests.{ranked-of, fit-of}
 use Rattle.settling.specs.Settling.{Arriving, longestWait, longestTimeout}
 use Rattle.election.specs.System.{station, underway}
 use Rattle.election.specs.declared.System.{System}
-use Rattle.settling.proofs.B-Calm.{Stretch, keyL, Calm}
+use Rattle.settling.proofs.B-Calm.{Stretch, keyAt, keyL, rank-low, Calm}
 use Rattle.settling.proofs.A1-Sane.{Sane}
 use Rattle.settling.proofs.E3-Invariant.{Inv}
 use Rattle.settling.proofs.D-Deadline.{soonest-le}
@@ -27,11 +26,11 @@ use Rattle.election.proofs.Counts.{counts}
 use Rattle.settling.proofs.A2-Reached.{always, Low, Reached}
 use Rattle.election.proofs.Underway.{underway-due}
 
--- L is the first of the up heads by its count and number
+-- L is the first of the up heads by count, rank and number
 pub record FirstUp (s : System) (L : ℕ) : Type 0 where
   pub inside : In (s .n) L
   pub is-up : station s L .up ≡ true
-  pub fewest : (p : ℕ) → In (s .n) p → station s p .up ≡ true → p ≢ L → (counts s L < counts s p) ⊎ ((counts s L ≡ counts s p) × (L < p))
+  pub least : (p : ℕ) → In (s .n) p → station s p .up ≡ true → p ≢ L → before (counts s L) (entry (s .ranks) L) L (counts s p) (entry (s .ranks) p) p ≡ true
 
 module _ (s : System) where
   -- M is no shorter than any timeout of an up head, W than any start-up wait left
@@ -71,33 +70,37 @@ module _ (s : System) (h : Reached s) (d L : ℕ) (first : FirstUp s L) where
         W = longestWait s;
         steady = λ p. station s p .up;
         C = counts s;
+        ranks = s .ranks;
+        ranked = ranked-of (s .n) (s .ranks) (h .sound .ranked);
         small = h .sound .n-high;
         beats = omega (arith, h .sound .period-low);
         L-in = first .inside;
         L-steady = first .is-up;
       }
 
-  L-least : (p : ℕ) → In (s .n) p → station s p .up ≡ true → keyL from-here ≤ key (counts s p) p
+  L-least : (p : ℕ) → In (s .n) p → station s p .up ≡ true → keyL from-here ≤ keyAt from-here p
   L-least p ip u = go (ℕ-discrete p L)
     where
-      by : (counts s L < counts s p) ⊎ ((counts s L ≡ counts s p) × (L < p)) → keyL from-here ≤ key (counts s p) p
-      by (inl a) = omega (arith, first .inside .high, h .sound .n-high)
-      by (inr a) = omega (arith, a .0, a .1)
+      small : (q : ℕ) → In (s .n) q → q ≤ 8
+      small q iq = omega (arith, iq .high, h .sound .n-high)
 
-      go : Dec (p ≡ L) → keyL from-here ≤ key (counts s p) p
+      go : Dec (p ≡ L) → keyL from-here ≤ keyAt from-here p
       go (yes e) = rw e (omega arith)
-      go (no ne) = by (first .fewest p ip u ne)
+      go (no ne) =
+          let less : keyL from-here < keyAt from-here p =
+          ltb-true _ _ (sym (before-key (counts s L) (entry (s .ranks) L) L (counts s p) (entry (s .ranks) p) p (rank-low from-here L (first .inside)) (small L (first .inside)) (rank-low from-here p ip) (small p ip)) ∙ first .least p ip u ne) in
+          omega arith
 
   begin-calm : (p : ℕ) → In (s .n) p → station s p .up ≡ true → Calm from-here p (s .tick + 1) (station s p)
   begin-calm p ip u =
-      let a : Sane (s .n) (s .period) always (counts s) p (s .tick + 1) (station s p) = h .heads p ip u in
+      let a : Sane (s .ranks) (s .n) (s .period) always (counts s) p (s .tick + 1) (station s p) = h .heads p ip u in
       record {
         sane = record { own = a .own; low = λ q iq Sq. a .low q iq refl; range = a .range; ahead = a .ahead; slow = a .slow; on = a .on; off = a .off };
         quick = λ q iq ne. omega (arith, timeout-below s p q ip iq ne u);
         dying = λ ne le. go (ℕ-discrete (station s p .leader) p) ne le;
       }
     where
-      go : Dec (station s p .leader ≡ p) → station s p .leader ≢ L → keyOf (station s p .recovered) (station s p .leader) ≤ keyL from-here → station s p .timer ≤ s .tick + longestTimeout s + 2 * d
+      go : Dec (station s p .leader ≡ p) → station s p .leader ≢ L → keyOf (s .ranks) (station s p .recovered) (station s p .leader) ≤ keyL from-here → station s p .timer ≤ s .tick + longestTimeout s + 2 * d
       go (yes e) ne le = let z : station s p .timer ≡ 0 = h .heads p ip u .off e in omega arith
       go (no np) ne le =
           let (low, high) = fit-of p (s .n) (s .period) (s .tick) (station s p) (h .sound .fits p ip) u .1 .on np in
@@ -115,6 +118,7 @@ module _ (s : System) (h : Reached s) (d L : ℕ) (first : FirstUp s L) where
       record {
         same-n = refl;
         same-period = refl;
+        same-ranks = refl;
         reached = h;
         ups = λ p ip u. u;
         const = λ x ix u. refl;

@@ -14,7 +14,7 @@ use Rattle.lists.specs.Every.{All}
 use Rattle.lists.specs.Test.{allTo}
 use Rattle.lists.proofs.Every.{all-left, all-right}
 use Rattle.lists.proofs.Test.{all-same}
-use Rattle.election.specs.Commands.{Command, SetUp, Start, Crash, Link, Run, Lose, Report, decode, perform}
+use Rattle.election.specs.Commands.{Command, SetUp, Start, Crash, Link, Run, Lose, Report, Rank, decode, perform}
 use Rattle.election.specs.System.{withDelay, withoutMessages, noStation, station, delay, underway}
 use Rattle.election.specs.Listing.{trusts, allTrust}
 use Rattle.settling.specs.Settling.{moments, ticksOf, befores, divided, dividedTicks, Permitted, LosesNone, Each, Sent}
@@ -101,6 +101,7 @@ module _ (K : Stretch) (x : System) (a b : ℕ) (ia : In (x .n) a) (ib : In (x .
       record {
         same-n = h .same-n;
         same-period = h .same-period;
+        same-ranks = h .same-ranks;
         reached = lose-reached x (h .reached) a b ia ib ne;
         ups = h .ups;
         const = h .const;
@@ -134,6 +135,7 @@ delay-inv K x a b d ia ib ne few h =
     record {
       same-n = h .same-n;
       same-period = h .same-period;
+      same-ranks = h .same-ranks;
       reached = delay-reached x (h .reached) a b d ia ib ne few;
       ups = h .ups;
       const = h .const;
@@ -164,6 +166,7 @@ pay K N (Lose p q) x (r, ip, iq, ne) ok none cut short b says =
       paid = omega arith;
     }
 pay K N Report x a ok none cut short b says = record { left = N; budget = b; says = says; paid = omega arith }
+pay K N (Rank p r) x a ok none cut short b says = absurd ok
 
 divided-append : (L : ℕ) (xs ys : List System) → dividedTicks L (xs ++ ys) ≡ dividedTicks L xs + dividedTicks L ys
 unfolding dividedTicks

@@ -1,7 +1,5 @@
 -- H. Who sends in a tick that is not divided; and demand 3, from the schedule's bytes and a list of byte strings.
 use mathlib.Core.Path.{_≡_, refl, sym, ap, subst, _∙_}
-use mathlib.Core.Logic.{_⊎_}
-use mathlib.Core.Logic._⊎_.{inl, inr}
 use mathlib.Core.Bool.{true, false, cond}
 use mathlib.Core.List.{List, [], _∷_}
 use Prim.Native.Nat.{ℕ, zero, suc, _+_, _-_, _*_, _/_, _≤_, _<_}
@@ -14,7 +12,7 @@ use Rattle.lists.proofs.Bools.{cond-elim}
 use Rattle.lists.proofs.Every.{all-append}
 use Rattle.lists.proofs.Test.{all-at}
 use Rattle.station.specs.declared.Station.{Station}
-use Rattle.election.specs.Commands.{Command, SetUp, Start, Crash, Link, Run, Lose, Report, decode}
+use Rattle.election.specs.Commands.{Command, SetUp, Start, Crash, Link, Run, Lose, Report, Rank, decode}
 use Rattle.election.specs.Listing.{trusts, allTrust}
 use Rattle.election.specs.Schedule.{schedule}
 use Rattle.settling.specs.Settling.{moments, ticksOf, befores, divided, dividedTicks, Quiet, upHeads, bound, answered, given, Settling}
@@ -29,6 +27,7 @@ use Rattle.election.proofs.Followed.{rules-system, Followed, accepted-schedule}
 use Rattle.settling.proofs.E2-Follower.{slot-leader}
 use Rattle.election.proofs.Counts.{counts, FromFresh, from-schedule}
 use Rattle.election.proofs.Places.{In, tick-station, tick-n}
+use Rattle.election.proofs.Ranks.{rank-is-latest}
 use Rattle.settling.proofs.F-Potential.{tri, tri-double}
 use Rattle.settling.proofs.A2-Reached.{Reached}
 use Rattle.settling.proofs.A3-Reaching.{Arrived, perform-arrived, fresh-arrived, reached-arrived}
@@ -77,6 +76,7 @@ silent-command L (Link p q d) x h a = tt
 silent-command L (Run t) x h (r, l, room) = silent-run L t x (h .reached r .sound .n-high)
 silent-command L (Lose p q) x h a = tt
 silent-command L Report x h a = tt
+silent-command L (Rank p r) x h a = tt
 
 silent : (L : ℕ) (es : List (List ℕ)) (x : System) → Arrived x → All (Silent L) (befores es x)
 unfolding befores
@@ -128,10 +128,7 @@ settling bytes stretch d L ok first quiet =
     record {
       inside = i;
       is-up = g .latest L i ∙ first .is-up;
-      fewest = λ p ip v ne. same (counts s L) (counts s p) L p (g .counted L i) (g .counted p ip) (first .fewest p (ip .low) (ip .high) (sym (g .latest p ip) ∙ v) ne);
+      least = λ p ip v ne.
+          rw (g .counted L i, g .counted p ip, rank-is-latest bytes ok L (i .low) (i .high), rank-is-latest bytes ok p (ip .low) (ip .high)) (first .least p (ip .low) (ip .high) (sym (g .latest p ip) ∙ v) ne);
     } in
     (record { few = few d L stretch s h u quiet; silent = silent L stretch s a; answers = λ k. answers k stretch s a }, f .system)
-  where
-    same : (a b x y : ℕ) {a′ b′ : ℕ} → a ≡ a′ → b ≡ b′ → (a′ < b′) ⊎ ((a′ ≡ b′) × (x < y)) → (a < b) ⊎ ((a ≡ b) × (x < y))
-    same a b x y e f (inl l) = inl (omega arith)
-    same a b x y e f (inr l) = inr (e ∙ l .0 ∙ sym f, l .1)

@@ -14,19 +14,19 @@ use Rattle.election.specs.Commands.{ruling, refusal}
 use Rattle.election.specs.Listing.{allTrust}
 use Rattle.election.specs.Rows.{start, at20, startedSlow}
 use Rattle.settling.specs.Settling.{moments, befores, dividedTicks, longestWait, longestTimeout, upHeads, given}
-use Rattle.election.specs.History.{after, history, commands, starts, isUp}
+use Rattle.election.specs.History.{after, history, commands, starts, isUp, rankOf}
 use Rattle.election.specs.Schedule.{End, schedule}
 use Rattle.election.proofs.Opened.{rules}
 use Rattle.election.proofs.Ruled.{ruled, byRules}
 use Rattle.election.proofs.Tables.{schedule-ruled}
-use Rattle.settling.specs.Instance.{bytes, stretch, d, L, begin, Meets, Instance, slowStretch, SlowLinks, beforeCrash, withCrash, CrashOfL, withLosses, LostToUp, withCut, CutToUp, withDelay, SentLate, beforeLate, afterLate, LateUnderWay, beforeLowest, afterLowest, LowestNumber}
+use Rattle.settling.specs.Instance.{bytes, stretch, d, L, begin, Meets, Instance, slowStretch, SlowLinks, beforeCrash, withCrash, CrashOfL, withLosses, LostToUp, withCut, CutToUp, withDelay, SentLate, beforeLate, afterLate, LateUnderWay, beforeLowest, afterLowest, LowestNumber, ranked, afterRanked, Preferred, RankLeftOut}
 use Rattle.election.specs.declared.Message.{Message}
 use Rattle.election.specs.declared.System.{System}
 use Rattle.settling.proofs.Tested.{every, implies, pairs, sentTest, arrivingTest, eachTest, permittedTest, losesNoneTest, firstTest, Found, found, Says, says, quiet-of}
 
 -- every definition that is computed with: what unfolds this name unfolds them
 computing : Unit {0}
-unfolding rules ruled maxTo allTrust after history starts isUp moments befores dividedTicks longestWait longestTimeout upHeads given every implies pairs sentTest arrivingTest eachTest permittedTest losesNoneTest firstTest found
+unfolding rules ruled maxTo allTrust after history starts isUp rankOf moments befores dividedTicks longestWait longestTimeout upHeads given every implies pairs sentTest arrivingTest eachTest permittedTest losesNoneTest firstTest found
 computing = tt
 
 -- what is found: the conditions, the ticks, how many are divided, the bound
@@ -179,5 +179,34 @@ lowest-number =
     record {
       accepted = s .accepted;
       conditions = (lowest-up, ltb-true _ _ fewer-starts, quiet-of s refl refl refl refl refl);
+      passed = s .passed (omega arith);
+    }
+
+-- L by its rank, and the other head in its place
+preferred-found : found (byRules ranked .end) (commands ranked) afterRanked 1 2 ≡ holding 80 17 53
+unfolding computing
+preferred-found = refl
+
+pub preferred : Preferred
+preferred = meets-of (says ranked afterRanked 1 2 _ refl preferred-found)
+
+left-out-found : found (byRules ranked .end) (commands ranked) afterRanked 1 1 ≡ finding false true true true true true 80 80 53
+unfolding computing
+left-out-found = refl
+
+left-out-ruled : station (byRules ranked .end .system) 1 .up ≡ true
+unfolding computing
+left-out-ruled = refl
+
+as-many-starts : starts 1 (commands ranked) ≡ starts 2 (commands ranked)
+unfolding computing
+as-many-starts = refl
+
+pub rank-left-out : RankLeftOut
+rank-left-out =
+    let s = says ranked afterRanked 1 1 _ refl left-out-found in
+    record {
+      accepted = s .accepted;
+      conditions = (ap (λ (e : End). station (e .system) 1 .up) (schedule-ruled ranked refl) ∙ left-out-ruled, as-many-starts, quiet-of s refl refl refl refl refl);
       passed = s .passed (omega arith);
     }

@@ -1,6 +1,7 @@
--- Whenever a head is up there is a leader, and only one: candidates by starts are ordered as those by known counts are.
+-- Whenever a head is up there is a leader, and only one: candidates by starts are ordered as those by known counts are. With equal ranks it is
+-- document 01's.
 use mathlib.Core.Path.{_≡_, refl, sym, ap, _∙_}
-use mathlib.Core.Logic.{_⊎_, _≢_}
+use mathlib.Core.Logic.{_⊎_, _≢_, _↔_}
 use mathlib.Core.Logic._⊎_.{inl, inr}
 use mathlib.Core.List.{List}
 use mathlib.Core.Bool.{Bool, true, false, true≢false}
@@ -8,11 +9,13 @@ use Prim.Native.Nat.{ℕ, zero, suc, _<_, _≤_}
 use native.Mathlib.Decide.{ℕ-discrete}
 use native.Mathlib.Omega.{arith}
 use Rattle.station.specs.Order.{before}
-use Rattle.station.proofs.Ordered.{lexicographic-holds, strict-holds, total-holds, transitive-holds}
+use Rattle.station.proofs.Ordered.{ranks-equal, strict-holds, total-holds, transitive-holds}
 use Rattle.election.specs.Commands.{Command}
-use Rattle.election.specs.History.{starts, isUp}
-use Rattle.settling.specs.Leader.{LeaderExists, OneLeader}
+use Rattle.election.specs.History.{commands, starts, isUp, rankOf}
+use Rattle.election.specs.Schedule.{schedule}
+use Rattle.settling.specs.Leader.{LeaderExists, OneLeader, EqualRanks, FirstIsFewest, SettlingByStarts}
 use Rattle.settling.specs.Settling.{First}
+use Rattle.settling.proofs.H-Demand.{settling}
 
 module _ (cs : List Command) where
   abbrev Up : ℕ → Type 0
@@ -21,30 +24,23 @@ module _ (cs : List Command) where
   abbrev NoneUp : ℕ → Type 0
   NoneUp n = (p : ℕ) → 1 ≤ p → p ≤ n → Up p → ⊥
 
-  -- L is before p by their starts
+  -- L is before p by their starts, ranks and numbers
   abbrev Ahead : ℕ → ℕ → Type 0
-  Ahead L p = before (starts L cs) L (starts p cs) p ≡ true
-
-  fewer : (L p : ℕ) → Ahead L p → (starts L cs < starts p cs) ⊎ ((starts L cs ≡ starts p cs) × (L < p))
-  fewer L p = lexicographic-holds (starts L cs) L (starts p cs) p .0
-
-  -- the leader is before each other up head
-  leads : (n L p : ℕ) → First n cs L → 1 ≤ p → p ≤ n → Up p → p ≢ L → Ahead L p
-  leads n L p f low high u ne = lexicographic-holds (starts L cs) L (starts p cs) p .1 (f .fewest p low high u ne)
+  Ahead L p = before (starts L cs) (rankOf 0 L cs) L (starts p cs) (rankOf 0 p cs) p ≡ true
 
   -- one head more: the leader so far stays, or the new head becomes it
   module _ (n : ℕ) where
     stays : (L : ℕ) → First n cs L → (Up (suc n) → Ahead L (suc n)) → First (suc n) cs L
     stays L f new =
-        record { low = f .low; high = omega (arith, f .high); is-up = f .is-up; fewest = λ p low high u ne. fewer L p (go p low high u ne (ℕ-discrete p (suc n))) }
+        record { low = f .low; high = omega (arith, f .high); is-up = f .is-up; least = λ p low high u ne. go p low high u ne (ℕ-discrete p (suc n)) }
       where
         go : (p : ℕ) → 1 ≤ p → p ≤ suc n → Up p → p ≢ L → Dec (p ≡ suc n) → Ahead L p
         go p low high u ne (yes e) = rw e (new (rw e at u))
-        go p low high u ne (no e) = leads n L p f low (omega arith) u ne
+        go p low high u ne (no e) = f .least p low (omega arith) u ne
 
     becomes : Up (suc n) → ((p : ℕ) → 1 ≤ p → p ≤ n → Up p → Ahead (suc n) p) → First (suc n) cs (suc n)
     becomes new ahead =
-        record { low = omega arith; high = omega arith; is-up = new; fewest = λ p low high u ne. fewer (suc n) p (ahead p low (omega arith) u) }
+        record { low = omega arith; high = omega arith; is-up = new; least = λ p low high u ne. ahead p low (omega arith) u }
 
   leader-or-none : (n : ℕ) → ((L : ℕ) × First n cs L) ⊎ NoneUp n
   leader-or-none zero = inr (λ p low high u. omega arith)
@@ -58,7 +54,7 @@ module _ (cs : List Command) where
           rest p low high u (yes i) = true≢false (sym u ∙ ap (λ q. isUp false q cs) i ∙ e)
           rest p low high u (no i) = none p low (omega arith) u
       go true e (inr none) = inl (suc n, becomes n e (λ p low high u. absurd (none p low high u)))
-      go true e (inl (L, f)) = inl (choose (total-holds (starts L cs) L (starts (suc n) cs) (suc n) (λ i. omega (arith, f .high))))
+      go true e (inl (L, f)) = inl (choose (total-holds (starts L cs) (rankOf 0 L cs) L (starts (suc n) cs) (rankOf 0 (suc n) cs) (suc n) (λ i. omega (arith, f .high))))
         where
           choose : Ahead L (suc n) ⊎ Ahead (suc n) L → (K : ℕ) × First (suc n) cs K
           choose (inl a) = (L, stays n L f (λ u. a))
@@ -66,7 +62,7 @@ module _ (cs : List Command) where
             where
               past : (p : ℕ) → 1 ≤ p → p ≤ n → Up p → Dec (p ≡ L) → Ahead (suc n) p
               past p low high u (yes i) = rw i a
-              past p low high u (no i) = transitive-holds (starts (suc n) cs) (suc n) (starts L cs) L (starts p cs) p a (leads n L p f low high u i)
+              past p low high u (no i) = transitive-holds (starts (suc n) cs) (rankOf 0 (suc n) cs) (suc n) (starts L cs) (rankOf 0 L cs) L (starts p cs) (rankOf 0 p cs) p a (f .least p low high u i)
 
 pub leader-exists : LeaderExists
 leader-exists n cs p low high u = go (leader-or-none cs n)
@@ -81,6 +77,20 @@ one-leader n cs L K f g = go (ℕ-discrete L K)
     go : Dec (L ≡ K) → L ≡ K
     go (yes e) = e
     go (no ne) =
-        let a : Ahead cs L K = leads cs n L K f (g .low) (g .high) (g .is-up) (λ e. ne (sym e)) in
-        let b : Ahead cs K L = leads cs n K L g (f .low) (f .high) (f .is-up) ne in
-        absurd (true≢false (sym b ∙ strict-holds (starts L cs) L (starts K cs) K a))
+        let a : Ahead cs L K = f .least K (g .low) (g .high) (g .is-up) (λ e. ne (sym e)) in
+        let b : Ahead cs K L = g .least L (f .low) (f .high) (f .is-up) ne in
+        absurd (true≢false (sym b ∙ strict-holds (starts L cs) (rankOf 0 L cs) L (starts K cs) (rankOf 0 K cs) K a))
+
+-- equal ranks do not matter
+before-equal : (cs : List Command) (L p : ℕ) → rankOf 0 L cs ≡ rankOf 0 p cs → (before (starts L cs) (rankOf 0 L cs) L (starts p cs) (rankOf 0 p cs) p ≡ true) ↔ ((starts L cs < starts p cs) ⊎ ((starts L cs ≡ starts p cs) × (L < p)))
+before-equal cs L p e = rw e (ranks-equal (starts L cs) L (starts p cs) p (rankOf 0 p cs))
+
+pub first-is-fewest : FirstIsFewest
+first-is-fewest n cs L same = (
+  λ f. record { low = f .low; high = f .high; is-up = f .is-up; fewest = λ p low high u ne. before-equal cs L p (same L p (f .low) (f .high) low high) .0 (f .least p low high u ne) },
+  λ f. record { low = f .low; high = f .high; is-up = f .is-up; least = λ p low high u ne. before-equal cs L p (same L p (f .low) (f .high) low high) .1 (f .fewest p low high u ne) },
+)
+
+pub settling-by-starts : SettlingByStarts
+settling-by-starts bytes stretch d L ok same f quiet =
+    settling bytes stretch d L ok (first-is-fewest (schedule bytes .system .n) (commands bytes) L same .1 f) quiet .0

@@ -8,7 +8,7 @@ use lib.Dec.{eqb, ltb}
 use lib.ListN.{length}
 use Rattle.lists.specs.Every.{All}
 use Rattle.lists.proofs.Bools.{cond-elim}
-use Rattle.election.specs.Commands.{Command, SetUp, Start, Crash, Link, Run, Lose, Report, decode, operands, tests, refusal, command, numberOf, refusalOf, lengthOf}
+use Rattle.election.specs.Commands.{Command, SetUp, Start, Crash, Link, Run, Lose, Report, Rank, decode, operands, tests, refusal, command, numberOf, refusalOf, lengthOf}
 use Rattle.settling.specs.OfCode.{Octets, CodeExists}
 use Rattle.election.specs.Schedule.{End, mostBytes, schedule, refusalOf as refusalIn, offsetOf}
 use Rattle.election.specs.Sound.{sound}
@@ -19,7 +19,7 @@ use Rattle.election.specs.declared.Commanded.{Commanded}
 use Rattle.election.specs.declared.Ended.{Ended}
 use Rattle.election.specs.declared.Ended.the-variants.{Whole, Stopped}
 use Rattle.election.specs.declared.Refusal.{Refusal}
-use Rattle.election.specs.declared.Refusal.the-variants.{UnknownCommand, MissingOperand, NotSetUp, SetUpTwice, StationsRange, PeriodRange, StationRange, StationUp, StationDown, WornOut, SameStation, NoTicks, PastLastTick, Unsound, ScheduleLong}
+use Rattle.election.specs.declared.Refusal.the-variants.{UnknownCommand, MissingOperand, NotSetUp, SetUpTwice, StationsRange, PeriodRange, StationRange, StationUp, StationDown, WornOut, SameStation, NoTicks, PastLastTick, Unsound, ScheduleLong, RankRange, AlreadyStarted}
 use Rattle.election.specs.declared.Scheduled.{Scheduled}
 use Rattle.election.specs.declared.System.{System}
 use Rattle.election.proofs.Follow.{ruling-is, follow-refusal}
@@ -41,7 +41,9 @@ named k =
     (cond (eqb k 11) SameStation
     (cond (eqb k 13) NoTicks
     (cond (eqb k 14) PastLastTick
-    (cond (eqb k 15) Unsound ScheduleLong)))))))))))))
+    (cond (eqb k 15) Unsound
+    (cond (eqb k 21) ScheduleLong
+    (cond (eqb k 22) RankRange AlreadyStarted)))))))))))))))
 
 -- 0, the number of a refusal, or 12
 abbrev Known : ℕ → Type 0
@@ -60,6 +62,7 @@ tests-known s (Link p q d) = (λ f ne. refl, (λ f ne. refl, (λ f ne. refl, (λ
 tests-known s (Run t) = (λ f ne. refl, (λ f ne. refl, (λ f ne. refl, tt)))
 tests-known s (Lose p q) = (λ f ne. refl, (λ f ne. refl, (λ f ne. refl, tt)))
 tests-known s Report = (λ f ne. refl, tt)
+tests-known s (Rank p r) = (λ f ne. refl, (λ f ne. refl, (λ f ne. refl, (λ f ne. refl, tt))))
 
 command-known : (s : System) (bytes : List ℕ) → Known (command s bytes .refusal)
 unfolding command refusal named

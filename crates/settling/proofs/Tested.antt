@@ -13,11 +13,10 @@ use Rattle.lists.specs.Test.{allTo}
 use Rattle.lists.proofs.Bools.{both, four}
 use Rattle.lists.proofs.Test.{all-at}
 use Rattle.station.specs.Order.{before}
-use Rattle.station.proofs.Ordered.{lexicographic-holds}
-use Rattle.election.specs.Commands.{Command, SetUp, Start, Crash, Link, Run, Lose, Report, decode}
+use Rattle.election.specs.Commands.{Command, SetUp, Start, Crash, Link, Run, Lose, Report, Rank, decode}
 use Rattle.election.specs.Schedule.{End, mostBytes, schedule}
 use Rattle.settling.specs.Settling.{First, befores, dividedTicks, Permitted, LosesNone, Each, Sent, Only, NoneLost, NoneCut, NoneSentLate, Arriving, Quiet, bound}
-use Rattle.election.specs.History.{accepted, after, commands, starts, isUp}
+use Rattle.election.specs.History.{accepted, after, commands, starts, isUp, rankOf}
 use Rattle.election.specs.System.{station, delay, underway}
 use Rattle.election.specs.Tick.{sending}
 use Rattle.election.specs.declared.System.{System}
@@ -97,6 +96,7 @@ permittedTest (Link p q d) = true
 permittedTest (Run t) = true
 permittedTest (Lose p q) = true
 permittedTest Report = true
+permittedTest (Rank p r) = false
 
 permitted-of : (c : Command) → permittedTest c ≡ true → Permitted c
 unfolding permittedTest
@@ -107,6 +107,7 @@ permitted-of (Link p q d) e = tt
 permitted-of (Run t) e = tt
 permitted-of (Lose p q) e = tt
 permitted-of Report e = tt
+permitted-of (Rank p r) e = true≢false (sym e)
 
 unfoldable pub losesNoneTest : Command → System → Bool
 losesNoneTest (SetUp n period) s = true
@@ -116,6 +117,7 @@ losesNoneTest (Link p q d) s = true
 losesNoneTest (Run t) s = true
 losesNoneTest (Lose p q) s = implies (station s p .up) (implies (station s q .up) (every (λ m. false) (underway s p q)))
 losesNoneTest Report s = true
+losesNoneTest (Rank p r) s = true
 
 empty-of : {A : Type 0} (xs : List A) → every (λ x. false) xs ≡ true → xs ≡ []
 unfolding every
@@ -131,10 +133,11 @@ losesNone-of (Link p q d) s e = tt
 losesNone-of (Run t) s e = tt
 losesNone-of (Lose p q) s e = λ up vp. empty-of (underway s p q) (implied (station s q .up) _ (implied (station s p .up) _ e up) vp)
 losesNone-of Report s e = tt
+losesNone-of (Rank p r) s e = tt
 
--- L is up, and before every other up head by starts and number
+-- L is up, and before every other up head by starts, rank and number
 unfoldable pub firstTest : ℕ → List Command → ℕ → Bool
-firstTest n cs L = leb 1 L && leb L n && isUp false L cs && pairs n (λ p q. implies (eqb q L) (implies (isUp false p cs) (before (starts L cs) L (starts p cs) p)))
+firstTest n cs L = leb 1 L && leb L n && isUp false L cs && pairs n (λ p q. implies (eqb q L) (implies (isUp false p cs) (before (starts L cs) (rankOf 0 L cs) L (starts p cs) (rankOf 0 p cs) p)))
 
 first-of : (n : ℕ) (cs : List Command) (L : ℕ) → firstTest n cs L ≡ true → First n cs L
 unfolding firstTest
@@ -146,9 +149,8 @@ first-of n cs L e =
       low = low;
       high = high;
       is-up = up;
-      fewest = λ p lp hp u ne.
-          lexicographic-holds (starts L cs) L (starts p cs) p .0
-          (implied (isUp false p cs) _ (implied (eqb L L) _ (pairs-at n _ all p L lp hp low high ne) (eq-eqb L L refl)) u);
+      least = λ p lp hp u ne.
+          implied (isUp false p cs) _ (implied (eqb L L) _ (pairs-at n _ all p L lp hp low high ne) (eq-eqb L L refl)) u;
     }
 
 -- the test of each condition, and the numbers; all at once, so that the systems are computed once

@@ -1,12 +1,12 @@
--- Demand 3 computed: one instance that meets every condition, each no better than it has to be, one with the longest delays, and for each
--- condition one that misses it alone and passes the bound.
+-- Demand 3 computed: one instance that meets every condition, each no better than it has to be, one with the longest delays, one whose leader
+-- is told by its rank, and for each condition one that misses it alone and passes the bound.
 use mathlib.Core.Path.{_≡_}
 use mathlib.Core.List.{List, [], _∷_, _++_, map}
 use mathlib.Core.Bool.{true, false}
 use Prim.Native.Nat.{ℕ, _+_, _<_}
 use lib.ListN.{length, take}
 use Rattle.election.specs.Commands.{ruling}
-use Rattle.election.specs.Rows.{setUp, start, crash, link, run, lose, report, started, at20, startedSlow}
+use Rattle.election.specs.Rows.{setUp, start, crash, link, run, lose, report, rank, started, at20, startedSlow}
 use Rattle.election.specs.Schedule.{schedule}
 use Rattle.settling.specs.Settling.{First, befores, dividedTicks, Only, NoneLost, NoneCut, NoneSentLate, Arriving, Quiet, upHeads, bound, given}
 use Rattle.election.specs.History.{commands, starts}
@@ -76,7 +76,7 @@ pub record Passes (bytes : List ℕ) (stretch : List (List ℕ)) (d L : ℕ) (Co
   pub conditions : Conditions (schedule bytes .system)
   pub passed : bound d (schedule bytes .system) < dividedTicks L (befores stretch (schedule bytes .system))
 
--- L is the up head with fewest starts, the lowest number on a tie
+-- L is the first of the up heads
 abbrev pub IsFirst : List ℕ → ℕ → System → Type 0
 IsFirst bytes L s = First (s .n) (commands bytes) L
 
@@ -132,3 +132,19 @@ abbrev pub LowestNumber : Type 0
 LowestNumber =
     Passes beforeLowest afterLowest 1 1
     (λ s. (station s 1 .up ≡ true) × (starts 2 (commands beforeLowest) < starts 1 (commands beforeLowest)) × Quiet 1 afterLowest s)
+
+-- Two stations that start at once, 1 with rank 1: L is 2. To tick 17 station 1 trusts itself, and from 18 on both trust 2.
+abbrev pub ranked : List ℕ
+ranked = setUp 2 16 ++ rank 1 1 ++ start 1 ++ start 2
+
+abbrev pub afterRanked : List (List ℕ)
+afterRanked = run 80 ∷ []
+
+abbrev pub Preferred : Type 0
+Preferred = Meets ranked afterRanked 1 2 80 17 53
+
+-- with 1 for L, of as many starts and the lower number, and all else: all 80 ticks are divided where the bound is 53
+abbrev pub RankLeftOut : Type 0
+RankLeftOut =
+    Passes ranked afterRanked 1 1
+    (λ s. (station s 1 .up ≡ true) × (starts 1 (commands ranked) ≡ starts 2 (commands ranked)) × Quiet 1 afterRanked s)

@@ -1,11 +1,13 @@
--- The leader that demand 3 speaks of: whenever a head is up there is one, and only one.
+-- The leader that demand 3 speaks of: whenever a head is up there is one, and only one; with equal ranks it is document 01's.
 use mathlib.Core.Path.{_≡_}
+use mathlib.Core.Logic.{_⊎_, _≢_, _↔_}
 use mathlib.Core.List.{List}
 use mathlib.Core.Bool.{true, false}
-use Prim.Native.Nat.{ℕ, _≤_}
+use Prim.Native.Nat.{ℕ, _<_, _≤_}
 use Rattle.election.specs.Commands.{Command}
-use Rattle.election.specs.History.{isUp}
-use Rattle.settling.specs.Settling.{First}
+use Rattle.election.specs.History.{commands, starts, isUp, rankOf}
+use Rattle.election.specs.Schedule.{schedule}
+use Rattle.settling.specs.Settling.{First, Quiet, Settles}
 
 -- whenever a head is up there is one
 abbrev pub LeaderExists : Type 0
@@ -14,3 +16,28 @@ LeaderExists = (n : ℕ) (cs : List Command) (p : ℕ) → 1 ≤ p → p ≤ n �
 -- and there are no two
 abbrev pub OneLeader : Type 0
 OneLeader = (n : ℕ) (cs : List Command) (L K : ℕ) → First n cs L → First n cs K → L ≡ K
+
+-- document 01's leader: the up head with fewest starts, the lowest number on a tie
+pub record Fewest (n : ℕ) (cs : List Command) (L : ℕ) : Type 0 where
+  pub low : 1 ≤ L
+  pub high : L ≤ n
+  pub is-up : isUp false L cs ≡ true
+  pub fewest : (p : ℕ) → 1 ≤ p → p ≤ n → isUp false p cs ≡ true → p ≢ L → (starts L cs < starts p cs) ⊎ ((starts L cs ≡ starts p cs) × (L < p))
+
+-- all stations have the same rank
+abbrev pub EqualRanks : ℕ → List Command → Type 0
+EqualRanks n cs = (p q : ℕ) → 1 ≤ p → p ≤ n → 1 ≤ q → q ≤ n → rankOf 0 p cs ≡ rankOf 0 q cs
+
+-- then the first of the up heads is document 01's leader
+abbrev pub FirstIsFewest : Type 0
+FirstIsFewest = (n : ℕ) (cs : List Command) (L : ℕ) → EqualRanks n cs → First n cs L ↔ Fewest n cs L
+
+-- and demand 3 holds as document 01 says it
+abbrev pub SettlingByStarts : Type 0
+SettlingByStarts =
+    (bytes : List ℕ) (stretch : List (List ℕ)) (d L : ℕ)
+    → schedule bytes .refusal ≡ 0
+    → EqualRanks (schedule bytes .system .n) (commands bytes)
+    → Fewest (schedule bytes .system .n) (commands bytes) L
+    → Quiet d stretch (schedule bytes .system)
+    → Settles d L stretch (schedule bytes .system)

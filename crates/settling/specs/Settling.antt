@@ -1,30 +1,30 @@
 -- The words of demand 3, and the claim: nobody who sets link delays can keep the heads divided.
 use mathlib.Core.Path.{_≡_}
-use mathlib.Core.Logic.{_≢_, _⊎_}
+use mathlib.Core.Logic.{_≢_}
 use mathlib.Core.List.{List, [], _∷_, _++_}
 use mathlib.Core.Bool.{Bool, true, false, cond, not, _&&_}
-use Prim.Native.Nat.{ℕ, zero, suc, _+_, _-_, _*_, _/_, _<_, _≤_}
+use Prim.Native.Nat.{ℕ, zero, suc, _+_, _-_, _*_, _/_, _≤_}
 use lib.ListN.{take}
 use lib.Dec.{eqb}
 use Rattle.lists.specs.Count.{countTo}
 use Rattle.lists.specs.Every.{All}
 use Rattle.lists.specs.Largest.{maxTo}
-use Rattle.station.specs.Order.{entry}
-use Rattle.election.specs.Commands.{Command, SetUp, Start, Crash, Link, Run, Lose, Report, decode, command}
+use Rattle.station.specs.Order.{entry, before}
+use Rattle.election.specs.Commands.{Command, SetUp, Start, Crash, Link, Run, Lose, Report, Rank, decode, command}
 use Rattle.election.specs.Listing.{allTrust}
-use Rattle.election.specs.History.{accepted, after, commands, starts, isUp, reached}
+use Rattle.election.specs.History.{accepted, after, commands, starts, isUp, rankOf, reached}
 use Rattle.election.specs.Schedule.{schedule}
 use Rattle.election.specs.System.{fresh, station, delay, underway}
 use Rattle.election.specs.Tick.{sending, tick}
 use Rattle.election.specs.declared.Message.{Message}
 use Rattle.election.specs.declared.System.{System}
 
--- L is the up head with fewest starts, the lowest number on a tie
+-- L is the first of the up heads by (starts, rank, number), counted from the accepted commands
 pub record First (n : ℕ) (cs : List Command) (L : ℕ) : Type 0 where
   pub low : 1 ≤ L
   pub high : L ≤ n
   pub is-up : isUp false L cs ≡ true
-  pub fewest : (p : ℕ) → 1 ≤ p → p ≤ n → isUp false p cs ≡ true → p ≢ L → (starts L cs < starts p cs) ⊎ ((starts L cs ≡ starts p cs) × (L < p))
+  pub least : (p : ℕ) → 1 ≤ p → p ≤ n → isUp false p cs ≡ true → p ≢ L → before (starts L cs) (rankOf 0 L cs) L (starts p cs) (rankOf 0 p cs) p ≡ true
 
 -- the systems before each of t ticks
 unfoldable pub moments : ℕ → System → List System
@@ -40,6 +40,7 @@ ticksOf (Link p q d) s = []
 ticksOf (Run t) s = moments t s
 ticksOf (Lose p q) s = []
 ticksOf Report s = []
+ticksOf (Rank p r) s = []
 
 -- the systems before each tick of the stretch, in order, each entry from the system that the last one left
 unfoldable pub befores : List (List ℕ) → System → List System
@@ -55,7 +56,7 @@ unfoldable pub dividedTicks : ℕ → List System → ℕ
 dividedTicks L [] = 0
 dividedTicks L (s ∷ ss) = cond (divided L (tick s)) 1 0 + dividedTicks L ss
 
--- an entry of the stretch is refused, or a run, a link setting, a loss or a report
+-- an entry of the stretch is refused, or a run, a link setting, a loss or a report (a rank is refused whenever a head is up)
 abbrev pub Permitted : Command → Type 0
 Permitted (SetUp n period) = ⊥
 Permitted (Start p) = ⊥
@@ -64,6 +65,7 @@ Permitted (Link p q d) = Unit {0}
 Permitted (Run t) = Unit {0}
 Permitted (Lose p q) = Unit {0}
 Permitted Report = Unit {0}
+Permitted (Rank p r) = ⊥
 
 -- a loss between two up heads finds no message
 abbrev pub LosesNone : Command → System → Type 0
@@ -74,6 +76,7 @@ LosesNone (Link p q d) s = Unit {0}
 LosesNone (Run t) s = Unit {0}
 LosesNone (Lose p q) s = station s p .up ≡ true → station s q .up ≡ true → underway s p q ≡ []
 LosesNone Report s = Unit {0}
+LosesNone (Rank p r) s = Unit {0}
 
 -- of each entry, where it is accepted
 abbrev pub Each : (Command → System → Type 0) → List (List ℕ) → System → Type 0

@@ -17,9 +17,9 @@ use Rattle.lists.specs.First.{firstFailed}
 use Rattle.lists.proofs.First.{passed}
 use Rattle.fit.specs.Fit.{within}
 use Rattle.station.specs.declared.Station.{Station}
-use Rattle.election.specs.Commands.{Command, SetUp, Start, Crash, Link, Run, Lose, Report, Result, decode, operands, tests, ruling, perform, refusal, command, numberOf}
+use Rattle.election.specs.Commands.{Command, SetUp, Start, Crash, Link, Run, Lose, Report, Rank, Result, decode, operands, lastCommand, tests, ruling, perform, refusal, command, numberOf}
 use Rattle.election.specs.Idle.{Still}
-use Rattle.election.specs.System.{atTick, withStation, withDelay, withoutMessages, noStation, place, holding, withLinks, places}
+use Rattle.election.specs.System.{atTick, withStation, withDelay, withoutMessages, withRank, noStation, place, holding, withLinks, places}
 use Rattle.election.specs.Listing.{listing, longestListing}
 use Rattle.election.specs.Onward.{Halt, after, toList, goOn}
 use Rattle.election.specs.Sound.{sound}
@@ -32,14 +32,13 @@ use Rattle.election.proofs.Idle.{still-on}
 use Rattle.election.proofs.KeepsSound.{keeps-sound}
 use Rattle.layout.specs.Layout.{systemOf}
 use Rattle.layout.specs.declared.Layout.{Layout}
-use Rattle.layout.proofs.Stores.{Wide, withStations, withDelays, withUsed, Clearing, lost-read}
+use Rattle.layout.proofs.Stores.{Wide, withStations, withDelays, withUsed, withRanks, Clearing, lost-read}
 use Rattle.listing.specs.Wrote.{Wrote}
 use Rattle.listing.proofs.Parts.{wrote-none, wrote-part, wrote-length}
-use Rattle.decision.specs.Decided.{Sees, Taken, decided, meaning}
+use Rattle.decision.specs.Decided.{Sees, Turned, Taken, decided, meaning}
 use Rattle.simulator.specs.Gone.{Gone, leaving, gone, said}
 use Rattle.simulator.specs.declared.rules.Stop.the-variants.{Full, End, Refused}
 use Rattle.decision.specs.declared.Decision.{Decision}
-use Rattle.decision.specs.declared.Decision.the-variants as code
 use Rattle.decision.proofs.Bytes.{not-known, report-read}
 use Rattle.decision.proofs.Decisions.{decided-by, numbered, refused-number, taken-command, taken-width}
 
@@ -52,6 +51,7 @@ isReport (Link p q d) = false
 isReport (Run t) = false
 isReport (Lose p q) = false
 isReport Report = true
+isReport (Rank p r) = false
 
 -- so its byte is 7, and no other accepted command's is
 report-byte : (s : System) (bytes : List ℕ) → command s bytes .refusal ≡ 0 → eqb (getD bytes 0 0) 7 ≡ isReport (decode bytes)
@@ -59,36 +59,37 @@ unfolding command refusal decode
 report-byte s bytes t =
     let (e, t₀) = passed (sound s) (ruling s bytes) 14 t in
     let (l, t₁) = passed (ltb 0 (length bytes)) _ 1 t₀ in
-    let (w, t₂) = passed (within 1 (getD bytes 0 0) 7) _ 0 t₁ in
+    let (w, t₂) = passed (within 1 (getD bytes 0 0) lastCommand) _ 0 t₁ in
     seven (ℕ-discrete (getD bytes 0 0) 7) w
   where
-    tree : (a b c d e f : Bool) → Command
-    tree a b c d e f =
+    tree : (a b c d e f g : Bool) → Command
+    tree a b c d e f g =
         let x : ℕ = getD bytes 1 0 in
         let y : ℕ = getD bytes 2 0 in
         let z : ℕ = getD bytes 3 0 in
-        cond a (SetUp x y) (cond b (Start x) (cond c (Crash x) (cond d (Link x y z) (cond e (Run (x + 256 * y)) (cond f (Lose x y) Report)))))
+        cond a (SetUp x y) (cond b (Start x) (cond c (Crash x) (cond d (Link x y z) (cond e (Run (x + 256 * y)) (cond f (Lose x y) (cond g (Rank x y) Report))))))
 
-    other : (n : ℕ) → n ≢ 7 → within 1 n 7 ≡ true → (a b c d e f : Bool) → eqb n 1 ≡ a → eqb n 2 ≡ b → eqb n 3 ≡ c → eqb n 4 ≡ d → eqb n 5 ≡ e → eqb n 6 ≡ f → false ≡ isReport (tree a b c d e f)
-    other n ne w true b c d e f i₁ i₂ i₃ i₄ i₅ i₆ = refl
-    other n ne w false true c d e f i₁ i₂ i₃ i₄ i₅ i₆ = refl
-    other n ne w false false true d e f i₁ i₂ i₃ i₄ i₅ i₆ = refl
-    other n ne w false false false true e f i₁ i₂ i₃ i₄ i₅ i₆ = refl
-    other n ne w false false false false true f i₁ i₂ i₃ i₄ i₅ i₆ = refl
-    other n ne w false false false false false true i₁ i₂ i₃ i₄ i₅ i₆ = refl
-    other n ne w false false false false false false i₁ i₂ i₃ i₄ i₅ i₆ =
-        absurd (true≢false (sym w ∙ not-known n (eqb-false n 1 i₁) (eqb-false n 2 i₂) (eqb-false n 3 i₃) (eqb-false n 4 i₄) (eqb-false n 5 i₅) (eqb-false n 6 i₆) ne))
+    other : (n : ℕ) → n ≢ 7 → within 1 n lastCommand ≡ true → (a b c d e f g : Bool) → eqb n 1 ≡ a → eqb n 2 ≡ b → eqb n 3 ≡ c → eqb n 4 ≡ d → eqb n 5 ≡ e → eqb n 6 ≡ f → eqb n 8 ≡ g → false ≡ isReport (tree a b c d e f g)
+    other n ne w true b c d e f g i₁ i₂ i₃ i₄ i₅ i₆ i₈ = refl
+    other n ne w false true c d e f g i₁ i₂ i₃ i₄ i₅ i₆ i₈ = refl
+    other n ne w false false true d e f g i₁ i₂ i₃ i₄ i₅ i₆ i₈ = refl
+    other n ne w false false false true e f g i₁ i₂ i₃ i₄ i₅ i₆ i₈ = refl
+    other n ne w false false false false true f g i₁ i₂ i₃ i₄ i₅ i₆ i₈ = refl
+    other n ne w false false false false false true g i₁ i₂ i₃ i₄ i₅ i₆ i₈ = refl
+    other n ne w false false false false false false true i₁ i₂ i₃ i₄ i₅ i₆ i₈ = refl
+    other n ne w false false false false false false false i₁ i₂ i₃ i₄ i₅ i₆ i₈ =
+        absurd (true≢false (sym w ∙ not-known n (eqb-false n 1 i₁) (eqb-false n 2 i₂) (eqb-false n 3 i₃) (eqb-false n 4 i₄) (eqb-false n 5 i₅) (eqb-false n 6 i₆) ne (eqb-false n 8 i₈)))
 
-    seven : Dec (getD bytes 0 0 ≡ 7) → within 1 (getD bytes 0 0) 7 ≡ true → eqb (getD bytes 0 0) 7 ≡ isReport (decode bytes)
+    seven : Dec (getD bytes 0 0 ≡ 7) → within 1 (getD bytes 0 0) lastCommand ≡ true → eqb (getD bytes 0 0) 7 ≡ isReport (decode bytes)
     seven (yes e) w = eq-eqb (getD bytes 0 0) 7 e ∙ sym (ap isReport (report-read bytes e))
-    seven (no ne) w = ne-eqb (getD bytes 0 0) 7 ne ∙ other (getD bytes 0 0) ne w _ _ _ _ _ _ refl refl refl refl refl refl
+    seven (no ne) w = ne-eqb (getD bytes 0 0) 7 ne ∙ other (getD bytes 0 0) ne w _ _ _ _ _ _ _ refl refl refl refl refl refl refl
 
 -- what is decided from a layout's values and the bytes that are lent is decided of its system
 pub decided-of : (s : Layout) (bytes : List ℕ) (at k : ℕ) (d : Decision) → sound (systemOf s) ≡ true
     → (k < 8) × (getD (take (length bytes - at) (drop at bytes)) 1 0 ≤ 8 → getD (take (length bytes - at) (drop at bytes)) 1 0 - 1 ≡ k)
     → ((z : System) → sound z ≡ true → Sees z (s .ready) (s .n) (s .tick) (getD (s .stations) k noStation) (take (length bytes - at) (drop at bytes))
-    → meaning d ≡ decided (ruling z (take (length bytes - at) (drop at bytes))) (decode (take (length bytes - at) (drop at bytes))))
-    → meaning d ≡ decided (ruling (systemOf s) (drop at bytes)) (decode (drop at bytes))
+    → meaning z d ≡ decided (ruling z (take (length bytes - at) (drop at bytes))) (decode (take (length bytes - at) (drop at bytes))))
+    → meaning (systemOf s) d ≡ decided (ruling (systemOf s) (drop at bytes)) (decode (drop at bytes))
 decided-of s bytes at k d ok named told =
     let all : take (length bytes - at) (drop at bytes) ≡ drop at bytes = take-all (length bytes - at) (drop at bytes) (omega (arith, length-drop at bytes)) in
     rw all at (decided-by (systemOf s) (take (length bytes - at) (drop at bytes)) k d ok named told)
@@ -99,6 +100,9 @@ station-stored s y p x e = ap systemOf e
 
 pub delay-stored : (s y : Layout) (k p q x : ℕ) → k ≡ place p q → y ≡ withDelays (set (s .delays) k x) s → systemOf y ≡ withDelay p q x (systemOf s)
 delay-stored s y k p q x h e = ap systemOf e ∙ ap (λ i. systemOf (withDelays (set (s .delays) i x) s)) h
+
+pub rank-stored : (s y : Layout) (p r : ℕ) → y ≡ withRanks (set (s .ranks) (p - 1) r) s → systemOf y ≡ withRank p r (systemOf s)
+rank-stored s y p r e = ap systemOf e
 
 pub messages-stored : (s z y : Layout) (k p q i : ℕ) → k ≡ place p q → k < 64 → Wide s → Clearing k s z 0 i → i ≡ places → y ≡ withUsed (set (z .used) k 0) z → Wide y × (systemOf y ≡ withoutMessages p q (systemOf s))
 messages-stored s z y k p q i h hk wide clear all e =
@@ -136,13 +140,13 @@ module _ (list : Bool) (bytes old : List ℕ) (s₀ : System) (at₀ : ℕ) (s :
   pub ends : length bytes ≤ at → said (record { stop = End; at = at; size = size; system = s }) buffer ≡ gone list s₀ at₀ bytes old
   ends h = halts false 0 (go-end list (length old - size) (systemOf s) at bytes h)
 
-  module _ (inside : at < length bytes) (d : Decision) (m : meaning d ≡ decided (ruling (systemOf s) (drop at bytes)) (decode (drop at bytes))) where
-    pub turned-down : (why : Refusal) → d ≡ code.Refused why → said (record { stop = Refused why; at = at; size = size; system = s }) buffer ≡ gone list s₀ at₀ bytes old
+  module _ (inside : at < length bytes) (d : Decision) (m : meaning (systemOf s) d ≡ decided (ruling (systemOf s) (drop at bytes)) (decode (drop at bytes))) where
+    pub turned-down : (why : Refusal) → meaning (systemOf s) d ≡ Turned (numberOf why) → said (record { stop = Refused why; at = at; size = size; system = s }) buffer ≡ gone list s₀ at₀ bytes old
     turned-down why e =
         let number = refused-number (systemOf s) (drop at bytes) d why (g .is-sound) m e in
         halts false (numberOf why) (go-refused list (length old - size) (systemOf s) at bytes inside (λ z. numbered why (sym number ∙ z)) ∙ ap (λ n. record { full = false; refusal = n; offset = at; system = systemOf s; listed = [] }) number)
 
-    module _ (c : Command) (e : meaning d ≡ Taken c) where
+    module _ (c : Command) (e : meaning (systemOf s) d ≡ Taken c) where
       -- what is taken can be done
       pub taken : (decode (drop at bytes) ≡ c) × (firstFailed (tests (systemOf s) c) ≡ 0)
       taken = let (a, b, r) = taken-command (systemOf s) (drop at bytes) d c (g .is-sound) m e in (a, b)

@@ -9,6 +9,7 @@ use crate::rules::go_on;
 use decision::Decision;
 use decision::decide;
 use decision::named;
+use decision::none_started;
 use decision::widths::width;
 use election::Answer;
 use election::Commanded;
@@ -44,6 +45,12 @@ pub fn command(s: System, bytes: &[u8]) -> Commanded
     let d = decide(s.ready, s.n, s.tick, s.stations[k], bytes);
     if let Decision::Refused(why) = d {
         return refused(why, s);
+    }
+    if let Decision::Rank { .. } = d {
+        let stations = s.stations;
+        if !none_started(stations) {
+            return refused(Refusal::AlreadyStarted, s);
+        }
     }
     // taken: the owner does it, asked for no listings
     let size = 1 + width(bytes[0]);

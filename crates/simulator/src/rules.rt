@@ -8,6 +8,7 @@ ghost use Rattle.simulator.specs.Gone.{gone, said};
 use decision::Decision;
 use decision::decide;
 use decision::named;
+use decision::none_started;
 use decision::widths::width;
 use election::PLACES;
 use election::Refusal;
@@ -99,6 +100,20 @@ pub fn go_on(mut s: Layout, from: usize, bytes: &[u8], list: bool, buffer: &mut 
                     s.messages[PLACES * link + i] = empty;
                 }
                 s.used[link] = 0;
+                quiet = 0;
+            }
+            Decision::Rank { station, rank } => {
+                let stations = s.stations;
+                if !none_started(stations) {
+                    return Onward {
+                        stop: Stop::Refused(Refusal::AlreadyStarted),
+                        at,
+                        size,
+                        system: s,
+                    };
+                }
+                let place = (station - 1) as usize;
+                s.ranks[place] = rank;
                 quiet = 0;
             }
             Decision::Report => {

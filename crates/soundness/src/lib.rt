@@ -1,4 +1,4 @@
-// Whether a system is sound: every clause of document 01's list, tested, but for the longest delay, which no byte passes. No sum in the
+// Whether a system is sound: every clause of the papers' list, tested, but for the longest delay, which no byte passes. No sum in the
 // tests wraps.
 ghost use mathlib.Core.Path.{_≡_};
 ghost use Prim.Native.Nat.{_+_, _<_, _≤_};
@@ -13,6 +13,7 @@ use fit::LONGEST_DELAY;
 use fit::cleared;
 use fit::counts_in;
 use fit::fit;
+use fit::ranks_in;
 use fit::wide;
 use station::LAST_TICK;
 use station::Station;
@@ -234,5 +235,6 @@ pub fn sound(s: System) -> bool
     let numbers = ((2 <= s.n) & (s.n <= 8))
         & ((16 <= s.period) & (s.period <= 255))
         & (s.tick <= LAST_TICK);
-    numbers & stations_in(s) & links_in(s)
+    let ranks = s.ranks;
+    numbers & stations_in(s) & links_in(s) & ranks_in(s.n, ranks)
 }

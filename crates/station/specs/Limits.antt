@@ -8,6 +8,10 @@ lastTick = 1000000
 abbrev pub mostStarts : ℕ
 mostStarts = 4095
 
+-- the largest rank
+abbrev pub mostRank : ℕ
+mostRank = 7
+
 -- a timeout begins at period + count, at most 255 + 4095, and rises by at most one in a tick
 abbrev pub longest : ℕ → ℕ
 longest tick = 4350 + tick

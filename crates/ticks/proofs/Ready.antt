@@ -81,7 +81,7 @@ module _ (s : System) (t : Ticking s) where
   -- a timer that is due after (a) can end
   timer-safe : (p : ℕ) → In (s .n) p → station s p .up ≡ true → (x : Station) → x ≡ heardBy s p (station s p)
       → x .timer ≡ s .tick + 1 → (1 ≤ x .leader) × (x .leader ≤ 8) × (entry (x .timeouts) (x .leader) ≤ longest lastTick)
-  timer-safe p ip u x e d = expire-safe p (s .n) (s .period) (s .tick + 1) x (during-expires p (s .n) (s .period) (s .tick + 1) x (rw e (heard-timely s is (t .room) p ip u)) d)
+  timer-safe p ip u x e d = expire-safe p (s .n) (s .period) (s .tick + 1) x (during-expires (s .ranks) p (s .n) (s .period) (s .tick + 1) x (rw e (heard-timely s is (t .room) p ip u)) d)
 
 -- the same by places from 0, as the loops count
 module _ (s : System) (t : Ticking s) (p q : ℕ) (hp : p < s .n) (hq : q < s .n) where

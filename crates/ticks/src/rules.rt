@@ -85,7 +85,9 @@ pub fn run(t: u32, mut s: Layout) -> Ran
                                 if s.stations[p].up {
                                     let m = s.messages[PLACES * k + i];
                                     let v = m.counts;
+                                    let ranks = s.ranks;
                                     s.stations[p] = hear(
+                                        ranks,
                                         p as u8 + 1,
                                         q as u8 + 1,
                                         v,

@@ -1,4 +1,5 @@
 -- The function between meets its contract.
+use mathlib.Core.Path.{_∙_}
 use Rattle.lists.proofs.Bools.{holds, fails}
 use borrow.Author.Tests.{not-true, not-false, eq-eqb, ne-eqb}
 use borrow.Author.Needs.{needs}
@@ -25,7 +26,7 @@ returns-4 c s k e f t =
     let a = c .before .before .before .before .args in
     let ready = not-false (a .ready) (c .before .before .before .if1 .left) in
     let inside = holds (c .before .before .are-stations .ensures) (c .before .if2 .left) in
-    rw (e, f, ready, inside, ne-eqb (a .from) (a .to) (c .if3 .left)) t
+    t ∙ rw (e, f, ready, inside, ne-eqb (a .from) (a .to) (c .if3 .left))
 
 pub between-spec : {M : Type 1} → statement M
 between-spec = tie.close (tie.spec returns (λ c κs. search needs) returns-2 returns-3 returns-4)

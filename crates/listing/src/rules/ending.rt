@@ -9,7 +9,7 @@ use crate::text::put_last;
 use crate::text::put_named;
 use election::Refusal;
 
-// Document 01's number of a refusal.
+// The papers' number of a refusal.
 pub fn number_of(why: Refusal) -> u8
     ensures { λ r. ⌜ r ≡ numberOf why ⌝ }
 {
@@ -30,6 +30,8 @@ pub fn number_of(why: Refusal) -> u8
         Refusal::Unsound => 15,
         Refusal::BufferShort => 16,
         Refusal::ScheduleLong => 21,
+        Refusal::RankRange => 22,
+        Refusal::AlreadyStarted => 23,
     }
 }
 

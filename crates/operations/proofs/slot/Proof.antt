@@ -8,13 +8,13 @@ use Rattle.operations.proofs.slot.Statement.{statement}
 use Rattle.operations.proofs.slot.Tie as tie
 
 returns : tie.Need-returns
-returns c = c .refused .ensures ∙ sym (slot-unfit _ _ _ _ _ (fails (c .before .before .fit-slot .ensures) (c .before .if1 .taken)))
+returns c = c .refused .ensures ∙ sym (slot-unfit _ _ _ _ _ _ (fails (c .before .before .fit-slot .ensures) (c .before .if1 .taken)))
 
 slot-requires : tie.Need-slot-requires
-slot-requires c κs = slot-safe _ _ _ _ _ (holds (c .before .before .fit-slot .ensures) (c .before .if1 .left))
+slot-requires c κs = slot-safe _ _ _ _ _ _ (holds (c .before .before .fit-slot .ensures) (c .before .if1 .left))
 
 returns-2 : tie.Need-returns-2
-returns-2 c = c .accepted .ensures ∙ ap (done _) (c .before .slot .ensures) ∙ sym (slot-done _ _ _ _ _ (holds (c .before .before .before .before .fit-slot .ensures) (c .before .before .before .if1 .left)))
+returns-2 c = c .accepted .ensures ∙ ap (done _) (c .before .slot .ensures) ∙ sym (slot-done _ _ _ _ _ _ (holds (c .before .before .before .before .fit-slot .ensures) (c .before .before .before .if1 .left)))
 
 pub slot-spec : {M : Type 1} → statement M
 slot-spec =

@@ -39,9 +39,9 @@ loop-again c =
 
 returns : tie.Need-returns Inv-loop2 μ-loop2 Inv-loop μ-loop
 returns c =
-    let e : c .before .before .before .before .loop .k ≡ 64 = omega arith in
-    let start = c .before .before .before .before .before .before in
-    ap (λ ls. withLinks ls (start .args .t1)) (laid-all _ _ _ (rw e at (c .before .before .before .before .loop .inv .1)) (simp length-map at (start .good .0 .1 .1 .1 .1 .1 .1 .1 .1 .1 .0 .1 .0 .1)))
+    let e : c .before .before .before .before .before .loop .k ≡ 64 = omega arith in
+    let start = c .before .before .before .before .before .before .before in
+    ap (λ ls. withLinks ls (start .args .t1)) (laid-all _ _ _ (rw e at (c .before .before .before .before .before .loop .inv .1)) (simp length-map at (start .good .0 .1 .1 .1 .1 .1 .1 .1 .1 .1 .0 .1 .0 .1)))
 
 pub layout-of-spec : {M : Type 1} → statement M
 layout-of-spec =

@@ -40,8 +40,8 @@ loop-again c =
 returns : tie.Need-returns Inv-loop2 μ-loop2 Inv-loop μ-loop
 unfolding linksOf
 returns c =
-    let e : c .before .before .before .before .loop .k ≡ 64 = omega arith in
-    ap (λ ls. withLinks ls (systemOf (c .before .before .before .before .before .before .args .t1))) (rw e at (c .before .before .before .before .loop .inv .1) ∙ firsts-all 64 _ _ refl)
+    let e : c .before .before .before .before .before .loop .k ≡ 64 = omega arith in
+    ap (λ ls. withLinks ls (systemOf (c .before .before .before .before .before .before .before .args .t1))) (rw e at (c .before .before .before .before .before .loop .inv .1) ∙ firsts-all 64 _ _ refl)
 
 pub system-of-spec : {M : Type 1} → statement M
 system-of-spec =

@@ -193,19 +193,19 @@ loop6-holds c =
 
 hear-requires : tie.Need-hear-requires Inv-loop2 μ-loop2 Inv-loop μ-loop Inv-loop6 μ-loop6 Inv-loop7 μ-loop7 Inv-loop5 μ-loop5 Inv-loop4 μ-loop4 Inv-loop9 μ-loop9 Inv-loop8 μ-loop8 Inv-loop3 μ-loop3
 hear-requires c κs =
-    let i = c .before .before .before .before .before .before .before .before .before .before .before .before .before .before .before .before .loop3 .inv in
-    let r = systemOf (c .before .before .before .before .before .before .before .before .before .before .before .before .before .before .before .before .loop3 .s) in
-    let n = c .before .before .before .before .before .before .before .before .before .before .before .before .before .before .before .before .before .before .before .before .args .t2 .n in
-    let q = c .before .before .before .before .before .before .before .before .before .before .before .before .before .before .loop4 .q in
-    let i4 = c .before .before .before .before .before .before .before .before .before .before .before .before .before .before .loop4 .inv in
-    let p = c .before .before .before .before .before .before .before .before .before .before .before .loop5 .p in
-    let x = c .before .before .before .before .before .before .before .before .before .before .before .loop5 .s in
-    let i5 = c .before .before .before .before .before .before .before .before .before .before .before .loop5 .inv in
+    let i = c .before .before .before .before .before .before .before .before .before .before .before .before .before .before .before .before .before .loop3 .inv in
+    let r = systemOf (c .before .before .before .before .before .before .before .before .before .before .before .before .before .before .before .before .before .loop3 .s) in
+    let n = c .before .before .before .before .before .before .before .before .before .before .before .before .before .before .before .before .before .before .before .before .before .args .t2 .n in
+    let q = c .before .before .before .before .before .before .before .before .before .before .before .before .before .before .before .loop4 .q in
+    let i4 = c .before .before .before .before .before .before .before .before .before .before .before .before .before .before .before .loop4 .inv in
+    let p = c .before .before .before .before .before .before .before .before .before .before .before .before .loop5 .p in
+    let x = c .before .before .before .before .before .before .before .before .before .before .before .before .loop5 .s in
+    let i5 = c .before .before .before .before .before .before .before .before .before .before .before .before .loop5 .inv in
     let so = i5 .6 r (i4 .4) (i4 .5) .1 in
-    let ticking = going-ticking _ _ r (i .3) (c .before .before .before .before .before .before .before .before .before .before .before .before .before .before .before .loop3-test .taken) in
+    let ticking = going-ticking _ _ r (i .3) (c .before .before .before .before .before .before .before .before .before .before .before .before .before .before .before .before .loop3-test .taken) in
     let hq′ : q < r .n = omega (arith, i .3 .size) in
-    let hp : p < n = omega (arith, c .before .before .before .before .before .before .before .before .before .before .loop5-test .taken) in
-    hearing-ready r n p q (systemOf x) so ticking hp (sym (i .3 .size)) hq′ (getD (c .before .before .before .before .before .before .loop6 .s .stations) p noStation) (c .before .before .before .before .before .before .loop6 .inv .5 .heard .timeouts)
+    let hp : p < n = omega (arith, c .before .before .before .before .before .before .before .before .before .before .before .loop5-test .taken) in
+    hearing-ready r n p q (systemOf x) so ticking hp (sym (i .3 .size)) hq′ (getD (c .before .before .before .before .before .before .before .loop6 .s .stations) p noStation) (c .before .before .before .before .before .before .before .loop6 .inv .5 .heard .timeouts)
 
 loop6-again : tie.Need-loop6-again Inv-loop2 μ-loop2 Inv-loop μ-loop Inv-loop6 μ-loop6 Inv-loop7 μ-loop7 Inv-loop5 μ-loop5 Inv-loop4 μ-loop4 Inv-loop9 μ-loop9 Inv-loop8 μ-loop8 Inv-loop3 μ-loop3
 loop6-again c =
@@ -230,11 +230,11 @@ loop6-again c =
     (λ w. (
       next,
       i6 .1,
-      at-least _ _ _ (w .7) (i6 .2),
-      as-most _ _ _ (w .7) (i6 .3),
-      no-more _ _ _ (w .9) (i6 .4),
-      reading-hears _ _ _ _ _ s _ _ _ (i6 .5) hk hj _ _ _ (w .0 .left) (w .7) (w .9) _ (long-enough _ _ _ (link (c .before .before .before .before .before .before) .to .low) (i6 .5 .beside .long ∙ so .long)) (w .1 .taken) (w .5 .ensures) (w .6),
-      λ e. (i6 .6 (sym (w .8) ∙ e) .0, w .9 ∙ i6 .6 (sym (w .8) ∙ e) .1),
+      at-least _ _ _ (w .8) (i6 .2),
+      as-most _ _ _ (w .8) (i6 .3),
+      no-more _ _ _ (w .10) (i6 .4),
+      reading-hears _ _ _ _ _ s _ _ _ (i6 .5) hk hj _ _ _ (w .0 .left) (w .8) (w .10) _ (long-enough _ _ _ (link (c .before .before .before .before .before .before) .to .low) (i6 .5 .beside .long ∙ so .long)) (w .1 .taken) (w .6 .ensures) (w .7),
+      λ e. (i6 .6 (sym (w .9) ∙ e) .0, w .10 ∙ i6 .6 (sym (w .9) ∙ e) .1),
     ))
     (λ w. (
       next,
@@ -592,15 +592,15 @@ run-spec =
     (λ c. place-fits (place (c .before .before)))
     (λ c. message-fits (place (c .before .before)))
     (λ c. place-low (place (c .before .before)))
-    (λ c. number-fits (link (c .before .before .before .before .before .before .before .before .before) .to))
-    (λ c. name-fits (link (c .before .before .before .before .before .before .before .before .before) .to))
-    (λ c. number-fits (link (c .before .before .before .before .before .before .before .before .before) .from))
-    (λ c. name-fits (link (c .before .before .before .before .before .before .before .before .before) .from))
-    (λ c. station-fits (link (c .before .before .before .before .before .before .before .before .before) .to))
-    (λ c. link (c .before .before .before .before .before .before .before .before .before) .to .low)
+    (λ c. number-fits (link (c .before .before .before .before .before .before .before .before .before .before) .to))
+    (λ c. name-fits (link (c .before .before .before .before .before .before .before .before .before .before) .to))
+    (λ c. number-fits (link (c .before .before .before .before .before .before .before .before .before .before) .from))
+    (λ c. name-fits (link (c .before .before .before .before .before .before .before .before .before .before) .from))
+    (λ c. station-fits (link (c .before .before .before .before .before .before .before .before .before .before) .to))
+    (λ c. link (c .before .before .before .before .before .before .before .before .before .before) .to .low)
     hear-requires
-    (λ c. station-fits (link (c .before .before .before .before .before .before .before .before .before .before .before) .to))
-    (λ c. link (c .before .before .before .before .before .before .before .before .before .before .before) .to .low)
+    (λ c. station-fits (link (c .before .before .before .before .before .before .before .before .before .before .before .before) .to))
+    (λ c. link (c .before .before .before .before .before .before .before .before .before .before .before .before) .to .low)
     (λ c. next-place-fits (place (c .before)))
     (λ c. left-falls _ _ (c .before .loop6-test .taken))
     loop6-again

@@ -52,10 +52,18 @@ returns-15 c = rw (c .enum-told15 .given .1) refl
 returns-16 : tie.Need-returns-16
 returns-16 c = rw (c .enum-told16 .given .1) refl
 
+returns-17 : tie.Need-returns-17
+returns-17 c = rw (c .enum-told17 .given .1) refl
+
+returns-18 : tie.Need-returns-18
+returns-18 c = rw (c .enum-told18 .given .1) refl
+
 pub number-of-spec : {M : Type 1} → statement M
 number-of-spec =
     tie.close
     (tie.spec
+    (λ c. search needs)
+    (λ c. search needs)
     (λ c. search needs)
     (λ c. search needs)
     (λ c. search needs)
@@ -87,4 +95,6 @@ number-of-spec =
     returns-13
     returns-14
     returns-15
-    returns-16)
+    returns-16
+    returns-17
+    returns-18)
