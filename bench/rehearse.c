@@ -4,11 +4,11 @@
 #include <stdio.h>
 #include <string.h>
 
-enum { STATIONS = 8, PLACES = 16, MAX_INCARNATION = 4095, MAX_TICK = 1000000, MAX_SCHEDULE = 65536 };
-enum { SET_UP = 1, START, CRASH, LINK, RUN, LOSE, REPORT };
+enum { STATIONS = 8, PLACES = 16, MAX_RANK = 7, MAX_INCARNATION = 4095, MAX_TICK = 1000000, MAX_SCHEDULE = 65536 };
+enum { SET_UP = 1, START, CRASH, LINK, RUN, LOSE, REPORT, RANK };
 
 static const uint8_t operands[] = { // bytes after each command
-    [SET_UP] = 2, [START] = 1, [CRASH] = 1, [LINK] = 3, [RUN] = 2, [LOSE] = 2, [REPORT] = 0,
+    [SET_UP] = 2, [START] = 1, [CRASH] = 1, [LINK] = 3, [RUN] = 2, [LOSE] = 2, [REPORT] = 0, [RANK] = 2,
 };
 
 // Stations are numbered from 1; place 0 of each array by station is unused.
@@ -40,6 +40,7 @@ struct link {
 static bool ready; // set up is done
 static uint32_t stations, period, tick;
 static struct station station[STATIONS + 1];
+static uint32_t order[STATIONS + 1]; // of candidates with equal counts: rank, then number; below 256
 static struct link links[STATIONS + 1][STATIONS + 1]; // by sender, then receiver
 static bool busy[STATIONS + 1]; // whether a station may have messages under way
 static uint8_t schedule[MAX_SCHEDULE + 1];
@@ -67,11 +68,13 @@ static void crash(uint32_t p) {
     *s = (struct station){ .incarnation = s->incarnation, .stable = s->stable, .sent = s->sent };
 }
 
-// Candidates compare by known count, then number.
+// Candidates compare by known count, then rank, then number: all three as one number.
+static uint32_t key(const struct station *s, uint32_t p) {
+    return (uint32_t)s->recovered[p] << 8 | order[p];
+}
+
 static bool before(const struct station *s, uint32_t a, uint32_t b) {
-    if (s->recovered[a] != s->recovered[b])
-        return s->recovered[a] < s->recovered[b];
-    return a < b;
+    return key(s, a) < key(s, b);
 }
 
 static void hear(uint32_t p, uint32_t q, const uint16_t *recovered) {
@@ -108,12 +111,17 @@ static bool send_chance(uint32_t p) {
 
 // The desk.
 
+static void set_rank(uint32_t p, uint32_t rank) {
+    order[p] = rank * (STATIONS + 1) + p;
+}
+
 static void set_up(uint32_t n, uint32_t eta) {
     ready = true;
     stations = n;
     period = eta;
     for (uint32_t p = 1; p <= n; p++) {
         station[p].stable = p;
+        set_rank(p, 0);
         for (uint32_t q = 1; q <= n; q++)
             links[p][q].delay = p == q ? 0 : 1;
     }
@@ -274,10 +282,17 @@ static bool is_station(uint32_t p) {
     return 1 <= p && p <= stations;
 }
 
+static bool any_started(void) {
+    for (uint32_t p = 1; p <= stations; p++)
+        if (station[p].incarnation != 0)
+            return true;
+    return false;
+}
+
 // Does the first command of the bytes; answers 0, or the refusal with nothing changed.
 static int do_command(const uint8_t *bytes, size_t length) {
     uint8_t command = bytes[0];
-    if (command < SET_UP || command > REPORT) return 1;
+    if (command < SET_UP || command > RANK) return 1;
     if (length < 1u + operands[command]) return 2;
     if (!ready && command != SET_UP) return 3;
     const uint8_t *operand = bytes + 1;
@@ -318,6 +333,12 @@ static int do_command(const uint8_t *bytes, size_t length) {
     }
     case REPORT:
         report();
+        break;
+    case RANK:
+        if (!is_station(operand[0])) return 7;
+        if (operand[1] > MAX_RANK) return 22;
+        if (any_started()) return 23;
+        set_rank(operand[0], operand[1]);
         break;
     }
     return 0;

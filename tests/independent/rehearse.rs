@@ -1,4 +1,4 @@
-// Document 01 once more, with Papers 1 and 2 of document 02, in plain Rust: reads a schedule from standard input, does its commands tick by tick and
+// Document 01 once more, with Papers 1 to 3 of document 02, in plain Rust: reads a schedule from standard input, does its commands tick by tick and
 // prints what the rehearsal program must print. Written from the papers alone; tests/compare holds the product to it.
 
 use std::io::{self, BufWriter, Read, Write};
@@ -8,6 +8,7 @@ const LAST_TICK: u64 = 1_000_000;
 const LAST_COUNT: u64 = 4095;
 const LONGEST_DELAY: u64 = 255; // paper 1
 const MOST_UNDER_WAY: u64 = 16; // on a link, paper 1
+const LAST_RANK: u64 = 7; // paper 3
 
 /// A station. `kept_*` is what it keeps through a crash, `up` what it loses: there is none while it is down.
 struct Station {
@@ -41,6 +42,7 @@ struct Desk {
     eta: u64,
     tick: u64,
     stations: Vec<Station>,
+    rank: Vec<u64>, // paper 3
     delay: Vec<Vec<u64>>, // from, to; 0 to itself
     under_way: Vec<Message>,
 }
@@ -49,9 +51,9 @@ fn at(number: u64) -> usize {
     number as usize - 1
 }
 
-/// Whether candidate a is strictly before b: by known count, then by number.
-fn before(recovered: &[u64], a: u64, b: u64) -> bool {
-    (recovered[at(a)], a) < (recovered[at(b)], b)
+/// Whether candidate a is strictly before b: by known count, then by rank (paper 3), then by number.
+fn before(recovered: &[u64], rank: &[u64], a: u64, b: u64) -> bool {
+    (recovered[at(a)], rank[at(a)], a) < (recovered[at(b)], rank[at(b)], b)
 }
 
 impl Station {
@@ -75,19 +77,19 @@ impl Station {
         self.up = None;
     }
 
-    /// Hears LEADER from q in this tick.
-    fn hear(&mut self, q: u64, received: &[u64], tick: u64) {
+    /// Hears LEADER from q in this tick. The ranks are the desk's: all stations know them.
+    fn hear(&mut self, q: u64, received: &[u64], rank: &[u64], tick: u64) {
         let number = self.number;
         let Some(up) = &mut self.up else { return };
         for (own, new) in up.recovered.iter_mut().zip(received) {
             *own = (*own).max(*new);
         }
         // "If q is not after the trusted leader"
-        if !before(&up.recovered, up.leader, q) {
+        if !before(&up.recovered, rank, up.leader, q) {
             up.leader = q;
             up.timer = Some(tick + up.timeout[at(q)]);
         }
-        if before(&up.recovered, number, up.leader) {
+        if before(&up.recovered, rank, number, up.leader) {
             up.leader = number;
             up.timer = None;
         }
@@ -124,7 +126,8 @@ impl Desk {
         for i in 0..n as usize {
             delay[i][i] = 0;
         }
-        Desk { n, eta, tick: 0, stations: (1..=n).map(Station::new).collect(), delay, under_way: Vec::new() }
+        let stations = (1..=n).map(Station::new).collect();
+        Desk { n, eta, tick: 0, stations, rank: vec![0; n as usize], delay, under_way: Vec::new() }
     }
 
     fn one_tick(&mut self) {
@@ -137,7 +140,7 @@ impl Desk {
         self.under_way = rest;
         due.sort_by_key(|m| (m.to, m.from, m.sent_at));
         for m in due {
-            self.stations[at(m.to)].hear(m.from, &m.recovered, tick);
+            self.stations[at(m.to)].hear(m.from, &m.recovered, &self.rank, tick);
         }
 
         // (b) timers due
@@ -206,6 +209,7 @@ impl Desk {
                 good &= delay <= LONGEST_DELAY && (from != to || delay == 0);
             }
         }
+        good &= self.rank.len() as u64 == n && self.rank.iter().all(|&r| r <= LAST_RANK);
         for s in &self.stations {
             good &= station(s.kept_leader) && s.kept_count <= LAST_COUNT && s.sent <= 7 * tick;
             let Some(up) = &s.up else { continue };
@@ -252,6 +256,7 @@ fn command(state: &mut Option<Desk>, bytes: &[u8]) -> Result<(usize, bool), u64>
         4 => 3,
         5 | 6 => 2,
         7 => 0,
+        8 => 2,
         _ => return Err(1),
     };
     if bytes.len() < 1 + operands {
@@ -326,6 +331,20 @@ fn command(state: &mut Option<Desk>, bytes: &[u8]) -> Result<(usize, bool), u64>
             for _ in 0..ticks {
                 desk.one_tick();
             }
+        }
+        8 => {
+            let (of, rank) = (operand(1), operand(2));
+            if no_station(of) {
+                return Err(7);
+            }
+            if rank > LAST_RANK {
+                return Err(22);
+            }
+            // kept counts: a head that was started and is down counts too
+            if desk.stations.iter().any(|s| s.kept_count > 0) {
+                return Err(23);
+            }
+            desk.rank[at(of)] = rank;
         }
         _ => {} // report
     }

@@ -14,9 +14,14 @@ const LINK: u8 = 4;
 const RUN: u8 = 5;
 const LOSE: u8 = 6;
 const REPORT: u8 = 7;
+const RANK: u8 = 8;
+
+/// How many operands each command has, by its byte.
+const WIDTHS: [u64; 9] = [0, 2, 1, 1, 3, 2, 2, 0, 2];
 
 const LAST_TICK: u64 = 1_000_000;
 const LONGEST_DELAY: u64 = 255;
+const LAST_RANK: u64 = 7;
 
 /// A schedule under construction, with as much of the state as is needed to know what is accepted.
 struct Plan {
@@ -27,19 +32,37 @@ struct Plan {
     tick: u64,
     up: Vec<bool>,
     starts: Vec<u64>,
+    ranks: Vec<u64>,
+    rank_bytes: usize,
     report_percent: u64,
 }
 
 impl Plan {
     fn new(random: Random) -> Plan {
-        Plan { random, bytes: Vec::new(), n: 0, eta: 0, tick: 0, up: vec![], starts: vec![], report_percent: 85 }
+        Plan {
+            random,
+            bytes: Vec::new(),
+            n: 0,
+            eta: 0,
+            tick: 0,
+            up: vec![],
+            starts: vec![],
+            ranks: vec![],
+            rank_bytes: 0,
+            report_percent: 85,
+        }
     }
 
+    /// With ranks, more often than not.
     fn set_up(&mut self, n: u64, eta: u64) {
         self.bytes.extend([SETUP, n as u8, eta as u8]);
         (self.n, self.eta, self.tick) = (n, eta, 0);
         self.up = vec![false; n as usize + 1];
         self.starts = vec![0; n as usize + 1];
+        self.ranks = vec![0; n as usize + 1];
+        if self.random.percent(60) {
+            self.rank_all();
+        }
     }
 
     fn set_up_any(&mut self) {
@@ -111,6 +134,56 @@ impl Plan {
         }
     }
 
+    /// Whether no station was ever started; ranks are accepted only then.
+    fn fresh(&self) -> bool {
+        self.starts.iter().all(|&starts| starts == 0)
+    }
+
+    fn rank(&mut self, s: u64, rank: u64) {
+        self.bytes.extend([RANK, s as u8, rank as u8]);
+        self.ranks[s as usize] = rank;
+        self.rank_bytes += 3;
+    }
+
+    /// A rank above 0, or back to 0.
+    fn rank_some(&mut self) {
+        let s = self.station();
+        let back = self.ranks[s as usize] != 0 && self.random.percent(40);
+        let rank = if back { 0 } else { self.random.range(1, LAST_RANK) };
+        self.rank(s, rank);
+    }
+
+    /// Ranks of a fresh table, equal and different ones; some are set again.
+    fn rank_all(&mut self) {
+        match self.random.range(0, 9) {
+            0..=1 => self.rank_some(),
+            2..=3 => {
+                // the last number first
+                for s in 1..=self.n {
+                    self.rank(s, self.n - s);
+                }
+            }
+            4..=6 => {
+                // one of two
+                let ends = self.random.percent(33);
+                let two = [0, LAST_RANK].map(|end| if ends { end } else { self.random.range(0, LAST_RANK) });
+                for s in 1..=self.n {
+                    let rank = self.random.pick(&two);
+                    self.rank(s, rank);
+                }
+            }
+            _ => {
+                for s in 1..=self.n {
+                    let rank = self.random.range(0, LAST_RANK);
+                    self.rank(s, rank);
+                }
+            }
+        }
+        while self.random.percent(25) {
+            self.rank_some();
+        }
+    }
+
     fn link(&mut self, from: u64, to: u64, delay: u64) {
         self.bytes.extend([LINK, from as u8, to as u8, delay as u8]);
     }
@@ -163,7 +236,7 @@ impl Plan {
         }
     }
 
-    /// Some stations that differ, ascending but for the last, which is any.
+    /// Some stations that differ, by rank and then number but for the last, which is any.
     fn some_of(&mut self, many: usize) -> Vec<u64> {
         let mut left: Vec<u64> = (1..=self.n).collect();
         let mut taken = Vec::new();
@@ -171,7 +244,7 @@ impl Plan {
             let place = self.random.next() as usize % left.len();
             taken.push(left.remove(place));
         }
-        taken[..many - 1].sort();
+        taken[..many - 1].sort_by_key(|&s| (self.ranks[s as usize], s));
         taken
     }
 
@@ -189,14 +262,18 @@ impl Plan {
         self.run(ticks);
     }
 
-    /// How many bytes to aim at: mostly 20 to 150, at most 400.
+    /// How many bytes to aim at: mostly 20 to 150, at most 400, and those of the ranks so far.
     fn aim(&mut self) -> usize {
         let high = self.random.pick(&[60, 100, 150, 150, 250, 400]);
-        self.random.range(20, high) as usize
+        self.random.range(20, high) as usize + self.rank_bytes
     }
 
-    /// Any accepted command, by weights: start, crash, link, run, lose, report.
+    /// Any accepted command, by weights: start, crash, link, run, lose, report. Before the first start a rank, too.
     fn step(&mut self, weights: [u64; 6]) {
+        if self.fresh() && self.random.percent(20) {
+            self.rank_some();
+            return;
+        }
         let mut x = self.random.range(1, weights.iter().sum());
         for (i, w) in weights.into_iter().enumerate() {
             if x <= w {
@@ -449,6 +526,40 @@ fn restarted(p: &mut Plan) {
     p.run_some();
 }
 
+/// Ranks among links, runs and reports; then all stations start as often as one another, run, and the first in the order
+/// crashes, over and over: the ranks decide among equal counts each time.
+fn ranked(p: &mut Plan) {
+    p.set_up_any();
+    for _ in 0..p.random.range(1, 8) {
+        match p.random.range(0, 9) {
+            0 => p.report(),
+            1 => p.run_some(),
+            2 => p.link_some(),
+            _ => p.rank_some(),
+        }
+    }
+    let aim = p.aim() + 40;
+    while p.bytes.len() < aim {
+        let most = (1..=p.n).map(|s| p.starts[s as usize] + !p.up[s as usize] as u64).max().unwrap_or(1);
+        for s in 1..=p.n {
+            while p.starts[s as usize] < most {
+                if p.up[s as usize] {
+                    p.crash(s);
+                }
+                p.start(s);
+            }
+        }
+        p.run_some();
+        let ticks = p.eta + most + p.random.range(0, 4);
+        p.run(ticks);
+        let first = (1..=p.n).min_by_key(|&s| (p.ranks[s as usize], s)).unwrap_or(1);
+        p.crash(first);
+        p.run(ticks);
+        p.step([20, 5, 15, 50, 10, 0]);
+    }
+    p.report();
+}
+
 fn lose(p: &mut Plan) {
     p.set_up_any();
     p.start_all();
@@ -486,7 +597,8 @@ fn boundary(p: &mut Plan) {
         // the refused neighbours
         let n = p.random.pick(&[1, 2, 8, 9]) as u8;
         let eta = p.random.pick(&[15, 16, 255]) as u8;
-        p.bytes.extend([SETUP, n, eta, START, 1, REPORT]);
+        let rank = p.random.pick(&[0, 7, 7, 8]) as u8;
+        p.bytes.extend([SETUP, n, eta, RANK, 1, rank, START, 1, REPORT]);
         return;
     }
     let n = p.random.pick(&[2, 8]);
@@ -619,25 +731,25 @@ fn refusal(p: &mut Plan) {
     let s = if p.n == 0 { 1 } else { p.station() };
     let above = p.n + 1;
     let wrong = p.random.pick(&[0, above, 9, 255]);
-    match p.random.range(1, 12) {
+    match p.random.range(1, 14) {
         1 => {
-            let byte = p.random.pick(&[0, 8, 9, 16, 127, 128, 255]);
+            let byte = p.random.pick(&[0, 9, 10, 16, 127, 128, 255]);
             p.bytes.push(byte as u8);
         }
         2 => {
-            let name = p.random.range(1, 6) as u8;
-            let width = [0, 2, 1, 1, 3, 2, 2][name as usize];
-            let there = p.random.range(0, width - 1);
+            let name = p.random.pick(&[1, 2, 3, 4, 5, 6, 8]) as u8;
+            let there = p.random.range(0, WIDTHS[name as usize] - 1);
             p.bytes.push(name);
             for _ in 0..there {
-                p.bytes.push(1);
+                let byte = p.random.pick(&[0, 1, 1, 255]) as u8;
+                p.bytes.push(byte);
             }
             return; // nothing may follow
         }
         3 if p.n == 0 => {
-            let name = p.random.range(2, 7) as u8;
+            let name = p.random.range(2, 8) as u8;
             p.bytes.push(name);
-            for _ in 0..[0, 2, 1, 1, 3, 2, 0][name as usize - 1] {
+            for _ in 0..WIDTHS[name as usize] {
                 let byte = p.random.pick(&[0, 1, 2, 255]) as u8;
                 p.bytes.push(byte);
             }
@@ -657,12 +769,16 @@ fn refusal(p: &mut Plan) {
             let eta = p.random.pick(&[0, 1, 15]) as u8;
             p.bytes.extend([SETUP, n, eta]);
         }
-        5..=7 => match p.random.range(0, 5) {
+        5..=7 => match p.random.range(0, 6) {
             0 => p.bytes.extend([START, wrong as u8]),
             1 => p.bytes.extend([CRASH, wrong as u8]),
             2 => p.bytes.extend([LINK, wrong as u8, s as u8, 200]),
             3 => p.bytes.extend([LINK, s as u8, wrong as u8, 1]),
             4 => p.bytes.extend([LOSE, wrong as u8, wrong as u8]),
+            5 => {
+                let rank = p.random.pick(&[0, 7, 8, 255]) as u8;
+                p.bytes.extend([RANK, wrong as u8, rank]);
+            }
             _ => p.bytes.extend([LOSE, s as u8, wrong as u8]),
         },
         8 => {
@@ -675,6 +791,32 @@ fn refusal(p: &mut Plan) {
         }
         10 => p.bytes.extend([LINK, s as u8, s as u8, 65]),
         11 => p.bytes.extend([LOSE, s as u8, s as u8]),
+        12 if p.n == 0 => {
+            // all operands, or too few
+            let there = p.random.range(0, 2) as usize;
+            p.bytes.extend(&[RANK, 1, 0][..1 + there]);
+            if there < 2 {
+                return;
+            }
+        }
+        12 => {
+            let rank = p.random.pick(&[8, 8, 9, 16, 128, 255]) as u8;
+            p.bytes.extend([RANK, s as u8, rank]);
+        }
+        13 => {
+            if p.n != 0 && p.fresh() {
+                p.start(s);
+            }
+            // a head that was started and is down counts too
+            if p.random.percent(50) {
+                while p.some(true).is_some() {
+                    p.crash_some();
+                }
+            }
+            let of = if p.n == 0 || p.random.percent(50) { s } else { p.station() };
+            let rank = p.random.range(0, LAST_RANK) as u8;
+            p.bytes.extend([RANK, of as u8, rank]);
+        }
         _ => p.bytes.extend([RUN, 0, 0]),
     }
     // bytes that must not be reached
@@ -702,10 +844,10 @@ fn refused(p: &mut Plan) {
 fn missing(p: &mut Plan) {
     valid(p);
     p.bytes.pop(); // the report
-    if p.random.percent(50) {
-        p.run_silent(3);
-    } else {
-        p.link_some();
+    match p.random.range(0, 2) {
+        0 => p.run_silent(3),
+        1 => p.link_some(),
+        _ => p.rank_some(),
     }
     for _ in 0..p.random.range(1, 3) {
         p.bytes.pop();
@@ -731,10 +873,10 @@ fn damaged(p: &mut Plan) {
         let place = p.random.range(low, length - 1) as usize;
         match p.random.range(0, 5) {
             0 => p.bytes[place] = p.random.byte(),
-            1 => p.bytes[place] = p.random.range(0, 8) as u8,
+            1 => p.bytes[place] = p.random.range(0, 9) as u8,
             2 => p.bytes[place] ^= 1 << p.random.range(0, 7),
             3 => {
-                let byte = p.random.range(0, 8) as u8;
+                let byte = p.random.range(0, 9) as u8;
                 p.bytes.insert(place, byte);
             }
             4 => {
@@ -758,7 +900,7 @@ fn noise(p: &mut Plan) {
         p.set_up_any();
     }
     for _ in 0..p.random.range(1, 60) {
-        let byte = if p.random.percent(90) { p.random.range(0, 8) as u8 } else { p.random.byte() };
+        let byte = if p.random.percent(90) { p.random.range(0, 9) as u8 } else { p.random.byte() };
         p.bytes.push(byte);
     }
 }
@@ -784,8 +926,8 @@ fn huge(p: &mut Plan) {
 type Kind = (u64, &'static str, fn(&mut Plan));
 
 /// How many of each kind in 2,000.
-const KINDS: [Kind; 22] = [
-    (295, "valid", valid),
+const KINDS: [Kind; 23] = [
+    (235, "valid", valid),
     (170, "storm", storm),
     (130, "unstable", unstable),
     (140, "slow", slow),
@@ -794,6 +936,7 @@ const KINDS: [Kind; 22] = [
     (80, "collide", collide),
     (60, "informed", informed),
     (60, "restarted", restarted),
+    (60, "ranked", ranked),
     (110, "lose", lose),
     (90, "reports", reports),
     (100, "boundary", boundary),
