@@ -3,6 +3,7 @@
 ghost use mathlib.Core.Path.{_≡_};
 ghost use mathlib.Core.Bool.{true, _&&_};
 ghost use Prim.Native.Nat.{_+_, _*_, _-_, _<_, _≤_};
+ghost use lib.Dec.{eqb};
 ghost use lib.ListN.{getD};
 ghost use Rattle.lists.specs.First.{firstFailed};
 ghost use Rattle.fit.specs.Fit.{within};
@@ -182,13 +183,19 @@ fn rank(ready: bool, n: u8, station: u8, rank: u8) -> Decision
     }
 }
 
+// Whether a station was never started.
+fn never_started(x: Station) -> bool
+    ensures { λ r. ⌜ r ≡ eqb (x .incarnation) 0 ⌝ }
+{
+    x.incarnation == 0
+}
+
 // Whether no station was ever started.
 pub fn none_started(stations: [Station; 8]) -> bool
     ensures { λ r. ⌜ r ≡ noneStarted stations ⌝ }
 {
     for k in 0..8 {
-        let x = stations[k];
-        if x.incarnation != 0 {
+        if !never_started(stations[k]) {
             return false;
         }
     }
