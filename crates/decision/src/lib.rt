@@ -1,5 +1,5 @@
 // What is decided of a command before anything is done: turned down for the first test that it fails, or taken. No system is needed for
-// it, only a few of its values, and the station that the command names.
+// it, only a few of its values, and the station that the command names; but for the last test of a rank, 23, which is none_started.
 ghost use mathlib.Core.Path.{_≡_};
 ghost use mathlib.Core.Bool.{true, _&&_};
 ghost use Prim.Native.Nat.{_+_, _*_, _-_, _<_, _≤_};
@@ -15,6 +15,7 @@ ghost use Rattle.decision.specs.Decided.{Taken, Sees, decided, meaning};
 use crate::widths::width;
 use election::Refusal;
 use station::LAST_TICK;
+use station::MOST_RANK;
 use station::Station;
 
 pub mod widths;
@@ -167,18 +168,21 @@ fn report(ready: bool) -> Decision
     Decision::Report
 }
 
-// A station gets a rank, if no station was ever started.
-fn rank(ready: bool, n: u8, station: u8, rank: u8) -> Decision
-    ensures { λ r. ⌜ ((s : System) → s .ready ≡ ready → s .n ≡ n → meaning s r ≡ decided (firstFailed (tests s (Rank station rank))) (Rank station rank)) ⌝ }
+// A station gets a rank; that no station was ever started is still to be tested.
+fn rank(ready: bool, n: u8, p: u8, x: u8) -> Decision
+    ensures { λ r. ⌜ ((s : System) → s .ready ≡ ready → s .n ≡ n → meaning s r ≡ decided (firstFailed (tests s (Rank p x))) (Rank p x)) ⌝ }
 {
     if !ready {
         return Decision::Refused(Refusal::NotSetUp);
     }
-    if !is_station(n, station) {
+    if !is_station(n, p) {
         return Decision::Refused(Refusal::StationRange);
     }
-    match rank {
-        0..=7 => Decision::Rank { station, rank },
+    match x {
+        0..=MOST_RANK => Decision::Rank {
+            station: p,
+            rank: x,
+        },
         _ => Decision::Refused(Refusal::RankRange),
     }
 }

@@ -11,7 +11,7 @@ use Rattle.lists.specs.First.{firstFailed}
 use Rattle.lists.proofs.Bools.{both}
 use Rattle.lists.proofs.First.{passed}
 use Rattle.fit.specs.Fit.{within, longestDelay}
-use Rattle.station.specs.Limits.{lastTick, mostStarts, mostRank}
+use Rattle.station.specs.Limits.{lastTick, mostRank}
 use Rattle.fit.proofs.Tests.{within-of}
 use Rattle.election.specs.Commands.{Command, SetUp, Start, Crash, Link, Run, Lose, Report, Rank, decode, operands, lastCommand, noneStarted, tests, ruling}
 use Rattle.election.specs.System.{station}

@@ -16,7 +16,7 @@ use Rattle.station.specs.declared.Station.{Station}
 use Rattle.fit.proofs.Handed.{hearing-of, of-message}
 use Rattle.fit.proofs.Keeps.{During, Next, fit-during, fit-hears, heard-during, hear-keeps}
 use Rattle.fit.proofs.Tests.{counts-of}
-use Rattle.election.specs.Heads.{byCounts}
+use Rattle.election.specs.Heads.{byOrder}
 use Rattle.election.specs.Tick.{heardLink}
 use Rattle.election.specs.declared.Message.{Message}
 use Rattle.election.proofs.Links.{Posted}
@@ -49,18 +49,23 @@ module _ (ranks : List ℕ) (me n period now q : ℕ) where
 pub ready-rises : (ranks : List ℕ) (me n period now k q : ℕ) (x : Station) → k ≤ q → Ready ranks me n period now k x → Ready ranks me n period now q x
 ready-rises ranks me n period now k q x h a = record { during = a .during; above = λ q′ v l m. a .above q′ v (omega arith) m }
 
--- the messages of one sender
-module _ (ranks : List ℕ) (me n period tick q : ℕ) (sender : Station) (hq : In n q) (other : q ≢ me) where
+-- a message of one sender
+module _ (me n period tick q : ℕ) (sender : Station) (hq : In n q) (other : q ≢ me) where
   pub posted-fits : (m : Message) → Posted n period tick sender m → fitMessage me n q (m .counts) ≡ true
   posted-fits m p =
       of-message me n q (m .counts) (record { low = hq .low; high = hq .high; other = other; counts = counts-of n (m .counts) (p .counts) })
+
+-- the messages of one sender
+module _ (ranks : List ℕ) (me n period tick q : ℕ) (sender : Station) (hq : In n q) (other : q ≢ me) where
+  fits : (m : Message) → Posted n period tick sender m → fitMessage me n q (m .counts) ≡ true
+  fits = posted-fits me n period tick q sender hq other
 
   -- the messages after one that was heard
   pub goes-on : (low : ℕ) (ms : List Message) (x : Station)
       → tick + 1 + period ≤ low + longestDelay → period ≤ low
       → Spaced (Posted n period tick sender) period low ms
       → Again ranks me n period (tick + 1) q x
-      → Again ranks me n period (tick + 1) q (heardLink (byCounts ranks) me q (tick + 1) ms x)
+      → Again ranks me n period (tick + 1) q (heardLink (byOrder ranks) me q (tick + 1) ms x)
   unfolding heardLink
   goes-on low ms x h g none a = a
   goes-on low ms x h g (more {m = m} {ms = rest} l p r) a =
@@ -70,29 +75,29 @@ module _ (ranks : List ℕ) (me n period tick q : ℕ) (sender : Station) (hq : 
       gap = omega (arith, p .sent-by)
 
       at : (b : Bool)
-          → ((y : Station) → Again ranks me n period (tick + 1) q y → Again ranks me n period (tick + 1) q (heardLink (byCounts ranks) me q (tick + 1) rest y))
-          → Again ranks me n period (tick + 1) q (heardLink (byCounts ranks) me q (tick + 1) rest (cond b (byCounts ranks me q m (tick + 1) x) x))
-      at true go = go _ (heard-again ranks me n period (tick + 1) q (m .counts) x (a .next q (m .counts) (inr (refl, gap)) (posted-fits m p)))
+          → ((y : Station) → Again ranks me n period (tick + 1) q y → Again ranks me n period (tick + 1) q (heardLink (byOrder ranks) me q (tick + 1) rest y))
+          → Again ranks me n period (tick + 1) q (heardLink (byOrder ranks) me q (tick + 1) rest (cond b (byOrder ranks me q m (tick + 1) x) x))
+      at true go = go _ (heard-again ranks me n period (tick + 1) q (m .counts) x (a .next q (m .counts) (inr (refl, gap)) (fits m p)))
       at false go = go x a
 
   -- all its messages, where nothing of its was heard yet
   pub hears-link : (k low : ℕ) (ms : List Message) (x : Station) → k < q
       → Spaced (Posted n period tick sender) period low ms
       → Ready ranks me n period (tick + 1) k x
-      → Ready ranks me n period (tick + 1) q (heardLink (byCounts ranks) me q (tick + 1) ms x)
+      → Ready ranks me n period (tick + 1) q (heardLink (byOrder ranks) me q (tick + 1) ms x)
   unfolding heardLink
   hears-link k low ms x h none a = ready-rises ranks me n period (tick + 1) k q x (omega arith) a
   hears-link k low ms x h (more {m = m} {ms = rest} l p r) a =
       at (eqb (m .due) (tick + 1)) refl (λ y b. hears-link k (m .sent + period) rest y h r b)
     where
       at : (b : Bool) → eqb (m .due) (tick + 1) ≡ b
-          → ((y : Station) → Ready ranks me n period (tick + 1) k y → Ready ranks me n period (tick + 1) q (heardLink (byCounts ranks) me q (tick + 1) rest y))
-          → Ready ranks me n period (tick + 1) q (heardLink (byCounts ranks) me q (tick + 1) rest (cond b (byCounts ranks me q m (tick + 1) x) x))
+          → ((y : Station) → Ready ranks me n period (tick + 1) k y → Ready ranks me n period (tick + 1) q (heardLink (byOrder ranks) me q (tick + 1) rest y))
+          → Ready ranks me n period (tick + 1) q (heardLink (byOrder ranks) me q (tick + 1) rest (cond b (byOrder ranks me q m (tick + 1) x) x))
       at true e go =
           let due : m .due ≡ tick + 1 = eqb-true (m .due) (tick + 1) e in
           again-ready ranks me n period (tick + 1) q _
           (goes-on (m .sent + period) rest _ (omega (arith, p .due-by)) (omega arith) r
-          (heard-again ranks me n period (tick + 1) q (m .counts) x (a .above q (m .counts) h (posted-fits m p))))
+          (heard-again ranks me n period (tick + 1) q (m .counts) x (a .above q (m .counts) h (fits m p))))
       at false e go = go x a
 
 -- all senders, ascending
@@ -100,17 +105,17 @@ module _ (ranks : List ℕ) (me n period tick : ℕ) (sender : ℕ → Station) 
     (mail : (q : ℕ) → In n q → q ≢ me → Spaced (Posted n period tick (sender q)) period 0 (inbox q))
     (none-own : inbox me ≡ []) where
   pub hears-below : (j : ℕ) (x : Station) → j ≤ n → Ready ranks me n period (tick + 1) 0 x
-      → Ready ranks me n period (tick + 1) j (each j (λ k. heardLink (byCounts ranks) me (k + 1) (tick + 1) (inbox (k + 1))) x)
+      → Ready ranks me n period (tick + 1) j (each j (λ k. heardLink (byOrder ranks) me (k + 1) (tick + 1) (inbox (k + 1))) x)
   unfolding each
   hears-below zero x h a = a
   hears-below (suc j) x h a = at (ℕ-discrete (j + 1) me) (hears-below j x (omega arith) a)
     where
       y : Station
-      y = each j (λ k. heardLink (byCounts ranks) me (k + 1) (tick + 1) (inbox (k + 1))) x
+      y = each j (λ k. heardLink (byOrder ranks) me (k + 1) (tick + 1) (inbox (k + 1))) x
 
-      at : Dec (j + 1 ≡ me) → Ready ranks me n period (tick + 1) j y → Ready ranks me n period (tick + 1) (suc j) (heardLink (byCounts ranks) me (j + 1) (tick + 1) (inbox (j + 1)) y)
+      at : Dec (j + 1 ≡ me) → Ready ranks me n period (tick + 1) j y → Ready ranks me n period (tick + 1) (suc j) (heardLink (byOrder ranks) me (j + 1) (tick + 1) (inbox (j + 1)) y)
       at (yes e) r =
-          rw (heard-none (byCounts ranks) me (j + 1) (tick + 1) (inbox (j + 1)) y (ap inbox e ∙ none-own)) (ready-rises ranks me n period (tick + 1) j (suc j) y (omega arith) r)
+          rw (heard-none (byOrder ranks) me (j + 1) (tick + 1) (inbox (j + 1)) y (ap inbox e ∙ none-own)) (ready-rises ranks me n period (tick + 1) j (suc j) y (omega arith) r)
       at (no e) r =
           let i : In n (j + 1) = seat-in n j (omega arith) in
           ready-rises ranks me n period (tick + 1) (j + 1) (suc j) _ (omega arith)

@@ -1,14 +1,18 @@
 -- What the four rules of the heads keep: all that the laws of a tick rest on.
-use mathlib.Core.Path.{_≡_, refl}
+use mathlib.Core.Path.{_≡_, refl, ap}
 use mathlib.Core.Bool.{true}
 use Prim.Native.Nat.{ℕ, _+_}
 use borrow.Author.Tests.{eqb-true}
 use Rattle.station.specs.declared.Station.{Station}
 use Rattle.station.proofs.Elimination.{slotted-elim}
 use Rattle.station.proofs.Unchanged.{Unchanged, heard-unchanged, heard-timeouts, expired-unchanged}
-use Rattle.election.specs.Heads.{hearing, expiring, slotting, announces}
+use Rattle.election.specs.Heads.{byOrder, hearing, expiring, slotting, announces}
 use Rattle.election.specs.declared.Message.{Message}
 use Rattle.election.specs.declared.System.{System}
+
+-- heads that know the same ranks hear the same
+pub hearing-same : (s r : System) → s .ranks ≡ r .ranks → hearing s ≡ hearing r
+hearing-same s r e = ap byOrder e
 
 module _ (s : System) where
   -- hearing and the end of a timer

@@ -165,7 +165,7 @@ module _ (s : System) (full : Held s) (e : idle s ≡ true) where
 pub idle-held : IdleHeld
 unfolding tick atTick
 idle-held s full e =
-    λ i. renewed (next s) (same-stations s full e i) (same-sent s full e i) (s .delays) (same-links s full e i) s
+    λ i. renewed (next s) (same-stations s full e i) (same-sent s full e i) (s .delays) (same-links s full e i) (s .ranks) s
 
 -- whatever the counter
 pub held-at : (t : ℕ) (s : System) → Held s → Held (atTick t s)

@@ -3,7 +3,6 @@
 pub mod Spaced
 pub mod Links
 pub mod Places
-pub mod Ranks
 pub mod Soundness
 pub mod InitialSound
 -- A tick: what the heads do keeps, step by step; it leaves a sound system
@@ -21,12 +20,13 @@ pub mod Idle
 pub mod Accepting
 pub mod Changes
 pub mod KeepsSound
--- A schedule, command by command: 15 is never met, and 12 by no bytes; its end, its start counts, the bytes that matter, going on with it
+-- A schedule, command by command: 15 is never met, and 12 by no bytes; its end, its start counts and ranks, the bytes that matter, going on with it
 pub mod Follow
 pub mod NeverUnsound
 pub mod NoTwelve
 pub mod Followed
 pub mod Counts
+pub mod Ranks
 pub mod FromOffset
 pub mod Ending
 pub mod FirstOnly

@@ -1,28 +1,30 @@
--- Ranks: after an accepted schedule each is the latest accepted one, 0 if there is none.
-use mathlib.Core.Path.{_≡_, refl, sym, ap, _∙_}
+-- Ranks: after an accepted schedule each is the latest accepted one, 0 if there is none; and none is accepted while a head is up.
+use mathlib.Core.Path.{_≡_, refl, ap, _∙_}
 use mathlib.Core.List.{List, [], _∷_}
-use mathlib.Core.Bool.{cond}
+use mathlib.Core.Bool.{true, cond}
 use Prim.Native.Nat.{ℕ, zero, suc, _-_, _≤_}
 use native.Mathlib.Decide.{ℕ-discrete}
 use native.Mathlib.Omega.{arith}
 use lib.Dec.{eqb}
-use lib.ListN.{length, replicate, set, length-set, length-replicate}
+use lib.ListN.{length, getD, replicate, set, length-set, length-replicate}
 use lib.Seq.{getD-set-same, getD-set-other}
-use borrow.Author.Tests.{eq-eqb, ne-eqb}
+use borrow.Author.Tests.{eq-eqb, ne-eqb, eqb-true}
+use Rattle.lists.proofs.Test.{all-at}
 use Rattle.station.specs.Order.{entry}
+use Rattle.fit.proofs.Tests.{fit-of}
 use Rattle.station.proofs.Vectors.{zeros-at}
-use Rattle.election.specs.Claims.{RankIsLatest}
-use Rattle.election.specs.Commands.{Command, SetUp, Start, Crash, Link, Run, Lose, Report, Rank, perform}
+use Rattle.election.specs.Claims.{RankIsLatest, RankRefusedWhileUp}
+use Rattle.election.specs.Commands.{Command, SetUp, Start, Crash, Link, Run, Lose, Report, Rank, noneStarted, perform}
 use Rattle.election.specs.History.{commands, rankOf, reached}
 use Rattle.election.specs.Schedule.{schedule}
-use Rattle.election.specs.System.{fresh, initial}
+use Rattle.election.specs.System.{noStation, station, fresh, initial}
 use Rattle.election.specs.Tick.{tick, ticks}
 use Rattle.election.specs.declared.System.{System}
 use Rattle.election.proofs.Accepting.{Accepts, accepts}
 use Rattle.election.proofs.Counts.{from-schedule}
 use Rattle.election.proofs.Followed.{Allowed, accepted-schedule}
 use Rattle.election.proofs.Places.{In}
-use Rattle.election.proofs.Soundness.{sound-of}
+use Rattle.election.proofs.Soundness.{Sound, sound-of}
 
 -- neither a tick nor a run changes a rank
 pub tick-ranks : (s : System) → tick s .ranks ≡ s .ranks
@@ -101,3 +103,14 @@ rank-is-latest bytes e p low high =
     ap (λ (s : System). entry (s .ranks) p) (f .system)
     ∙ rank-along (commands bytes) fresh (ap length fresh-ranks ∙ length-replicate {A = ℕ} 8 0) (f .allowed) p (record { low = low; high = omega arith })
     ∙ ap (λ r. rankOf r p (commands bytes)) (ap (λ l. entry l p) fresh-ranks ∙ zero-rank p)
+
+-- where no head was ever started none is up, so that no rank is accepted while one is
+pub nobody-up : (s : System) → Sound s → noneStarted (s .stations) ≡ true → (p : ℕ) → In (s .n) p → station s p .up ≡ true → ⊥
+nobody-up s f none p ip u =
+    let zero : station s p .incarnation ≡ 0 = eqb-true _ 0 (all-at 8 (p - 1) (λ k. eqb (getD (s .stations) k noStation .incarnation) 0) none (omega (arith, ip .low, ip .high, f .n-high))) in
+    omega (arith, fit-of p (s .n) (s .period) (s .tick) (station s p) (f .fits p ip) u .0 .living .count)
+
+pub rank-refused-while-up : RankRefusedWhileUp
+rank-refused-while-up s e ready q low high u p r t =
+    let (is, ip, few, none) = accepts (Rank p r) s t in
+    nobody-up s (sound-of s e ready) none q (record { low = low; high = high }) u

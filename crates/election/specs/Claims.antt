@@ -5,9 +5,10 @@ use mathlib.Core.List.{List}
 use mathlib.Core.Bool.{true, false}
 use Prim.Native.Nat.{ℕ, _<_, _≤_}
 use lib.ListN.{length}
+use Rattle.lists.specs.First.{firstFailed}
 use Rattle.station.specs.Limits.{lastTick}
 use Rattle.station.specs.Order.{entry}
-use Rattle.election.specs.Commands.{Bytes, command}
+use Rattle.election.specs.Commands.{Bytes, Rank, tests, command}
 use Rattle.election.specs.Schedule.{schedule}
 use Rattle.election.specs.History.{commands, starts, isUp, rankOf}
 use Rattle.election.specs.Sound.{sound}
@@ -69,6 +70,12 @@ abbrev pub RankIsLatest : Type 0
 RankIsLatest =
     (bytes : List ℕ) → schedule bytes .refusal ≡ 0 → (p : ℕ) → 1 ≤ p → p ≤ schedule bytes .system .n
     → entry (schedule bytes .system .ranks) p ≡ rankOf 0 p (commands bytes)
+
+-- no rank is accepted while a head is up
+abbrev pub RankRefusedWhileUp : Type 0
+RankRefusedWhileUp =
+    (s : System) → sound s ≡ true → s .ready ≡ true → (q : ℕ) → 1 ≤ q → q ≤ s .n → station s q .up ≡ true
+    → (p r : ℕ) → firstFailed (tests s (Rank p r)) ≢ 0
 
 -- no command lowers a count, from every sound system that is set up
 abbrev pub CountsNeverFall : Type 0

@@ -11,13 +11,13 @@ use Rattle.election.specs.declared.System.{System}
 abbrev pub Hearing : Type 0
 Hearing = ℕ → ℕ → Message → ℕ → Station → Station
 
--- hearing by the ranks, and by the counts that the message brings
-abbrev pub byCounts : List ℕ → Hearing
-byCounts ranks me q m now x = heard ranks me q (m .counts) now x
+-- hearing by the order of candidates: the ranks, and the counts that the message brings
+abbrev pub byOrder : List ℕ → Hearing
+byOrder ranks me q m now x = heard ranks me q (m .counts) now x
 
 -- (a) hearing
 abbrev pub hearing : System → Hearing
-hearing s = byCounts (s .ranks)
+hearing s = byOrder (s .ranks)
 
 -- (b) the end of a timer
 abbrev pub expiring : System → ℕ → Station → Station

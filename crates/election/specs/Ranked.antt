@@ -2,11 +2,11 @@
 use mathlib.Core.List.{List, [], _∷_, _++_}
 use Prim.Native.Nat.{ℕ}
 use lib.ListN.{replicate}
-use Rattle.election.specs.Rows.{Row, InLast, Hold, leaders, ranked, setUp, start, crash, run, rank}
+use Rattle.election.specs.Rows.{Row, InLast, Hold, leaders, ranks, setUp, start, crash, run, rank}
 
 -- two stations, η 16, a rank for one of them, both started
-abbrev pub startedWith : ℕ → ℕ → List ℕ
-startedWith p r = setUp 2 16 ++ rank p r ++ start 1 ++ start 2
+abbrev pub startedRanked : ℕ → ℕ → List ℕ
+startedRanked p r = setUp 2 16 ++ rank p r ++ start 1 ++ start 2
 
 -- three stations with ranks 7, 3 and 0
 abbrev pub threeRanked : List ℕ
@@ -19,10 +19,10 @@ firstRanked = setUp 2 16 ++ rank 1 5
 abbrev pub preferences : List Row
 preferences =
     -- rank 1 for station 1: at tick 17 each trusts itself; at 18 both trust 2, and with the number before the rank they would trust 1
-    record { bytes = startedWith 1 1 ++ run 17; view = InLast leaders; seen = 0 ∷ 1 ∷ 2 ∷ [] }
-    ∷ record { bytes = startedWith 1 1 ++ run 18; view = InLast leaders; seen = 0 ∷ 2 ∷ 2 ∷ [] }
+    record { bytes = startedRanked 1 1 ++ run 17; view = InLast leaders; seen = 0 ∷ 1 ∷ 2 ∷ [] }
+    ∷ record { bytes = startedRanked 1 1 ++ run 18; view = InLast leaders; seen = 0 ∷ 2 ∷ 2 ∷ [] }
     -- for station 2: both trust 1
-    ∷ record { bytes = startedWith 2 1 ++ run 18; view = InLast leaders; seen = 0 ∷ 1 ∷ 1 ∷ [] }
+    ∷ record { bytes = startedRanked 2 1 ++ run 18; view = InLast leaders; seen = 0 ∷ 1 ∷ 1 ∷ [] }
     -- ranks 7, 3 and 0: all trust 3
     ∷ record { bytes = threeRanked ++ start 1 ++ start 2 ++ start 3 ++ run 32; view = InLast leaders; seen = 0 ∷ 3 ∷ 3 ∷ 3 ∷ [] }
     -- equal ranks: the lowest number
@@ -35,21 +35,24 @@ preferences =
 abbrev pub changes : List Row
 changes =
     -- the latest rank stands, a 0 too, and each station has its own
-    record { bytes = threeRanked; view = InLast ranked; seen = 0 ∷ 7 ∷ 3 ∷ replicate 6 0 }
-    ∷ record { bytes = threeRanked ++ rank 1 2 ++ rank 2 0; view = InLast ranked; seen = 0 ∷ 2 ∷ replicate 7 0 }
+    record { bytes = threeRanked; view = InLast ranks; seen = 0 ∷ 7 ∷ 3 ∷ replicate 6 0 }
+    ∷ record { bytes = threeRanked ++ rank 1 2 ++ rank 2 0; view = InLast ranks; seen = 0 ∷ 2 ∷ replicate 7 0 }
+    -- ticks may have run before it
+    ∷ record { bytes = firstRanked ++ run 5 ++ rank 1 3; view = InLast ranks; seen = 0 ∷ 3 ∷ replicate 7 0 }
     -- a start, a run and a crash leave them
-    ∷ record { bytes = threeRanked ++ start 2 ++ run 40 ++ crash 2; view = InLast ranked; seen = 0 ∷ 7 ∷ 3 ∷ replicate 6 0 }
+    ∷ record { bytes = threeRanked ++ start 2 ++ run 40 ++ crash 2; view = InLast ranks; seen = 0 ∷ 7 ∷ 3 ∷ replicate 6 0 }
     -- turned down: a missing operand is 2; not set up is 3; a station that is none is 7, before 22; a rank above 7 is 22, before 23; 23 after a start of
     -- whichever station, also when it is down again; 1 for the byte after 08
-    ∷ record { bytes = firstRanked ++ (0x08 ∷ 0x01 ∷ []); view = InLast ranked; seen = 2 ∷ 5 ∷ replicate 7 0 }
-    ∷ record { bytes = rank 0 9; view = InLast ranked; seen = 3 ∷ replicate 8 0 }
-    ∷ record { bytes = firstRanked ++ rank 0 8; view = InLast ranked; seen = 7 ∷ 5 ∷ replicate 7 0 }
-    ∷ record { bytes = firstRanked ++ rank 3 8; view = InLast ranked; seen = 7 ∷ 5 ∷ replicate 7 0 }
-    ∷ record { bytes = firstRanked ++ rank 1 8; view = InLast ranked; seen = 22 ∷ 5 ∷ replicate 7 0 }
-    ∷ record { bytes = firstRanked ++ start 2 ++ rank 1 8; view = InLast ranked; seen = 22 ∷ 5 ∷ replicate 7 0 }
-    ∷ record { bytes = firstRanked ++ start 2 ++ rank 1 7; view = InLast ranked; seen = 23 ∷ 5 ∷ replicate 7 0 }
-    ∷ record { bytes = firstRanked ++ start 2 ++ crash 2 ++ rank 1 7; view = InLast ranked; seen = 23 ∷ 5 ∷ replicate 7 0 }
-    ∷ record { bytes = firstRanked ++ (0x09 ∷ []); view = InLast ranked; seen = 1 ∷ 5 ∷ replicate 7 0 }
+    ∷ record { bytes = firstRanked ++ (0x08 ∷ 0x01 ∷ []); view = InLast ranks; seen = 2 ∷ 5 ∷ replicate 7 0 }
+    ∷ record { bytes = rank 0 9; view = InLast ranks; seen = 3 ∷ replicate 8 0 }
+    ∷ record { bytes = firstRanked ++ rank 0 8; view = InLast ranks; seen = 7 ∷ 5 ∷ replicate 7 0 }
+    ∷ record { bytes = firstRanked ++ rank 3 8; view = InLast ranks; seen = 7 ∷ 5 ∷ replicate 7 0 }
+    ∷ record { bytes = firstRanked ++ rank 1 8; view = InLast ranks; seen = 22 ∷ 5 ∷ replicate 7 0 }
+    ∷ record { bytes = firstRanked ++ start 2 ++ rank 1 8; view = InLast ranks; seen = 22 ∷ 5 ∷ replicate 7 0 }
+    ∷ record { bytes = firstRanked ++ start 2 ++ rank 1 7; view = InLast ranks; seen = 23 ∷ 5 ∷ replicate 7 0 }
+    ∷ record { bytes = firstRanked ++ start 2 ++ crash 2 ++ rank 1 7; view = InLast ranks; seen = 23 ∷ 5 ∷ replicate 7 0 }
+    ∷ record { bytes = setUp 8 16 ++ start 8 ++ rank 1 1; view = InLast ranks; seen = 23 ∷ replicate 8 0 }
+    ∷ record { bytes = firstRanked ++ (0x09 ∷ []); view = InLast ranks; seen = 1 ∷ 5 ∷ replicate 7 0 }
     ∷ []
 
 abbrev pub RanksRehearsed : Type 0

@@ -49,8 +49,8 @@ abbrev pub known : ℕ → System → List ℕ
 known p s = station s p .leader ∷ take (s .n) (station s p .recovered)
 
 -- the ranks
-abbrev pub ranked : System → List ℕ
-ranked s = s .ranks
+abbrev pub ranks : System → List ℕ
+ranks s = s .ranks
 
 -- how many messages a station has sent; the delay of a link; how many messages are under way on it and on the way back
 abbrev pub sentCount : ℕ → System → List ℕ

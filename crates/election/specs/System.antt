@@ -112,9 +112,9 @@ initial n period =
       ranks = replicate 8 0;
     }
 
--- the system with another tick, and other stations, sent counts, delays and links; all else stays
-abbrev pub renewed : ℕ → List Station → List ℕ → List ℕ → List Link → System → System
-renewed tick stations sent delays links s =
+-- the system with another tick, and other stations, sent counts, delays, links and ranks; all else stays
+abbrev pub renewed : ℕ → List Station → List ℕ → List ℕ → List Link → List ℕ → System → System
+renewed tick stations sent delays links ranks s =
     record {
       ready = s .ready;
       n = s .n;
@@ -124,26 +124,29 @@ renewed tick stations sent delays links s =
       sent = sent;
       delays = delays;
       links = links;
-      ranks = s .ranks;
+      ranks = ranks;
     }
 
 -- .. with one of these alone
 unfoldable pub atTick : ℕ → System → System
-atTick t s = renewed t (s .stations) (s .sent) (s .delays) (s .links) s
+atTick t s = renewed t (s .stations) (s .sent) (s .delays) (s .links) (s .ranks) s
 
 abbrev pub withStations : List Station → System → System
-withStations xs s = renewed (s .tick) xs (s .sent) (s .delays) (s .links) s
+withStations xs s = renewed (s .tick) xs (s .sent) (s .delays) (s .links) (s .ranks) s
 
 abbrev pub withSent : List ℕ → System → System
-withSent counts s = renewed (s .tick) (s .stations) counts (s .delays) (s .links) s
+withSent counts s = renewed (s .tick) (s .stations) counts (s .delays) (s .links) (s .ranks) s
 
 abbrev pub withDelays : List ℕ → System → System
-withDelays ds s = renewed (s .tick) (s .stations) (s .sent) ds (s .links) s
+withDelays ds s = renewed (s .tick) (s .stations) (s .sent) ds (s .links) (s .ranks) s
 
 abbrev pub withLinks : List Link → System → System
-withLinks ls s = renewed (s .tick) (s .stations) (s .sent) (s .delays) ls s
+withLinks ls s = renewed (s .tick) (s .stations) (s .sent) (s .delays) ls (s .ranks) s
 
--- .. with another station p, delay from p to q, or link from p to q
+abbrev pub withRanks : List ℕ → System → System
+withRanks rs s = renewed (s .tick) (s .stations) (s .sent) (s .delays) (s .links) rs s
+
+-- .. with another station p, delay from p to q, link from p to q, or rank of station p
 abbrev pub withStation : ℕ → Station → System → System
 withStation p x s = withStations (set (s .stations) (p - 1) x) s
 
@@ -153,21 +156,9 @@ withDelay p q d s = withDelays (set (s .delays) (place p q) d) s
 abbrev pub withLink : ℕ → ℕ → Link → System → System
 withLink p q l s = withLinks (set (s .links) (place p q) l) s
 
+abbrev pub withRank : ℕ → ℕ → System → System
+withRank p r s = withRanks (set (s .ranks) (p - 1) r) s
+
 -- .. without the messages under way from p to q
 abbrev pub withoutMessages : ℕ → ℕ → System → System
 withoutMessages p q s = withLink p q (holding []) s
-
--- the system with another rank of station p
-abbrev pub withRank : ℕ → ℕ → System → System
-withRank p r s =
-    record {
-      ready = s .ready;
-      n = s .n;
-      period = s .period;
-      tick = s .tick;
-      stations = s .stations;
-      sent = s .sent;
-      delays = s .delays;
-      links = s .links;
-      ranks = set (s .ranks) (p - 1) r;
-    }

@@ -76,7 +76,7 @@ abbrev pub linkNext : System → ℕ → Link
 linkNext s k = cond (isLink (s .n) (from k) (to k)) (holding (underwayAfter s (from k) (to k))) (getD (s .links) k noLink)
 
 unfoldable pub tick : System → System
-tick s = renewed (next s) (upTo 8 (seatNext s)) (upTo 8 (sentNext s)) (s .delays) (upTo 64 (linkNext s)) s
+tick s = renewed (next s) (upTo 8 (seatNext s)) (upTo 8 (sentNext s)) (s .delays) (upTo 64 (linkNext s)) (s .ranks) s
 
 -- a run of t ticks
 unfoldable pub ticks : ℕ → System → System

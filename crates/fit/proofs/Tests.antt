@@ -89,7 +89,7 @@ of-ranks n ranks f = all-of 8 (λ k. rankIn n k (getD ranks k 0)) (λ k h. le-le
 pub ranked-of : (n : ℕ) (ranks : List ℕ) → ranksIn n ranks ≡ true → Ranked ranks
 ranked-of n ranks e p h = go (ltb (p - 1) n) (ranks-of n ranks e (p - 1) (omega arith))
   where
-    go : (b : Bool) → entry ranks p ≤ cond b mostRank 0 → entry ranks p ≤ 7
+    go : (b : Bool) → entry ranks p ≤ cond b mostRank 0 → entry ranks p ≤ mostRank
     go true x = x
     go false x = omega arith
 

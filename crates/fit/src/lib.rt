@@ -7,6 +7,7 @@ ghost use Rattle.station.specs.Rules.{other};
 ghost use Rattle.fit.specs.Fit.{within, ranges, keptIn, cleared, countIn, countsIn, rankIn, ranksIn, timeoutIn, timeoutsIn, alive, slotIn, timerIn, standing, fit, justSet, timeoutsAt, fitStart, fitCrash, fitExpire, inTick, fitMessage, heardBefore, fitHear, unended, ended, fitSlot};
 ghost use Rattle.station.specs.Limits.{lastTick, longest};
 use station::LAST_TICK;
+use station::MOST_RANK;
 use station::Station;
 use station::rules::count_of;
 use station::rules::other;
@@ -91,7 +92,11 @@ pub fn counts_in(n: u8, v: [u16; 8]) -> bool
 fn rank_in(n: u8, k: usize, x: u8) -> bool
     ensures { λ r. ⌜ r ≡ rankIn n k x ⌝ }
 {
-    if k < n as usize { x <= 7 } else { x <= 0 }
+    if k < n as usize {
+        x <= MOST_RANK
+    } else {
+        x <= 0
+    }
 }
 
 // Whether every rank is in range.

@@ -14,7 +14,7 @@ use Rattle.station.specs.declared.Station.{Station}
 use Rattle.fit.proofs.Between.{of-start, of-crash}
 use Rattle.fit.proofs.Keeps.{hear-keeps, during-expires}
 use Rattle.handing.specs.Handed.{Holds, Finds, Runs, Hears, Expires, Slots, StartExact, CrashExact, HearExact, ExpireExact, SlotExact}
-use Rattle.election.specs.Heads.{byCounts}
+use Rattle.election.specs.Heads.{byOrder}
 use Rattle.election.specs.System.{station, underway}
 use Rattle.election.specs.Tick.{next, heardLink, heardAll, settled}
 use Rattle.election.specs.declared.Message.{Message}
@@ -65,13 +65,13 @@ module _ (ranks : List ℕ) (me n period tick q : ℕ) (sender : Station) (hq : 
   older-gap =
       let last : m .sent ≤ tick = spaced-here 0 older m younger mail .1 .sent-by in
       all-map (λ (o : Message). Posted n period tick sender o × (o .sent + period ≤ m .sent)) (λ (o : Message). o .due ≡ tick + 1 → Gap (o .counts))
-      (λ o p due. (posted-fits ranks me n period tick q sender hq other o (p .0), omega (arith, p .0 .due-by, p .1)))
+      (λ o p due. (posted-fits me n period tick q sender hq other o (p .0), omega (arith, p .0 .due-by, p .1)))
       older (spaced-older 0 older m younger mail)
 
-  pub hears-after : (x : Station) → Hearable x → fitHear ranks me n period (tick + 1) q (m .counts) (heardLink (byCounts ranks) me q (tick + 1) older x) ≡ true
+  pub hears-after : (x : Station) → Hearable x → fitHear ranks me n period (tick + 1) q (m .counts) (heardLink (byOrder ranks) me q (tick + 1) older x) ≡ true
   hears-after x a =
-      link-keeps (byCounts ranks) Hearable (λ o. Gap (o .counts)) me (tick + 1) q (λ o y g b v′ f. hear-keeps ranks me n period (tick + 1) q q (o .counts) v′ y (b (o .counts) (g .0)) (inr (refl, g .1)) f) older x older-gap a (m .counts)
-      (posted-fits ranks me n period tick q sender hq other m (spaced-here 0 older m younger mail .1))
+      link-keeps (byOrder ranks) Hearable (λ o. Gap (o .counts)) me (tick + 1) q (λ o y g b v′ f. hear-keeps ranks me n period (tick + 1) q q (o .counts) v′ y (b (o .counts) (g .0)) (inr (refl, g .1)) f) older x older-gap a (m .counts)
+      (posted-fits me n period tick q sender hq other m (spaced-here 0 older m younger mail .1))
 
 -- what a sound system hands to a station that is up, in its next tick
 module _ (me n period now : ℕ) (s : System) (r : Runs me n period now s) where
@@ -90,15 +90,15 @@ module _ (me n period now : ℕ) (s : System) (r : Runs me n period now s) where
 
   -- station me in the tick c: after the senders below q and the older messages of q, and after all of them
   abbrev afterOlder : ℕ → ℕ → List Message → Station
-  afterOlder c q older = heardLink (byCounts (s .ranks)) me q c older (each (q - 1) (λ k. heardLink (byCounts (s .ranks)) me (k + 1) c (underway s (k + 1) me)) (station s me))
+  afterOlder c q older = heardLink (byOrder (s .ranks)) me q c older (each (q - 1) (λ k. heardLink (byOrder (s .ranks)) me (k + 1) c (underway s (k + 1) me)) (station s me))
 
   abbrev afterHearing : ℕ → ℕ → Station
-  afterHearing a c = heardAll (byCounts (s .ranks)) a me c (λ q. underway s q me) (station s me)
+  afterHearing a c = heardAll (byOrder (s .ranks)) a me c (λ q. underway s q me) (station s me)
 
   pub hands-hear : (q : ℕ) (older : List Message) (m : Message) (younger : List Message) → In (s .n) q → q ≢ me → underway s q me ≡ older ++ (m ∷ younger)
       → fitHear (s .ranks) me n period now q (m .counts) (afterOlder now q older) ≡ true
   hands-hear q older m younger hq ne e =
-      let x : Station = each (q - 1) (λ k. heardLink (byCounts (s .ranks)) me (k + 1) (next s) (underway s (k + 1) me)) (station s me) in
+      let x : Station = each (q - 1) (λ k. heardLink (byOrder (s .ranks)) me (k + 1) (next s) (underway s (k + 1) me)) (station s me) in
       let a : Ready (s .ranks) me (s .n) (s .period) (next s) (q - 1) x = heard-below s sound-before in-time me me-in (r .is-up) (q - 1) (omega (arith, hq .high)) in
       with-given (λ a b c. fitHear (s .ranks) me a b c q (m .counts) (afterOlder c q older) ≡ true)
       (hears-after (s .ranks) me (s .n) (s .period) (s .tick) q (station s q) hq ne older m younger

@@ -18,7 +18,7 @@ use Rattle.fit.proofs.Handed.{JustSet, InTick, Before, Hearing, hearing-of, Exp
 use Rattle.fit.proofs.Keeps.{leader-timeout, set-other}
 use Rattle.fit.proofs.Tests.{Counts, Timer, Standing, of-counts, ranked-of, of-fit}
 use Rattle.handing.specs.Handed.{Finds, Hears, Expires, Slots, Eight, ByFull}
-use Rattle.election.specs.Heads.{byCounts}
+use Rattle.election.specs.Heads.{byOrder}
 use Rattle.election.specs.System.{station, underway, isLink}
 use Rattle.election.specs.Tick.{heardLink, heardAll, expiredNow, settled}
 use Rattle.election.specs.declared.Message.{Message}
@@ -53,27 +53,28 @@ only q ms = also q ms noMail
 abbrev leaderMail : ℕ → Station → ℕ → List Message
 leaderMail now x = only (x .leader) (dueNow now (now - 1) (replicate 8 0) ∷ [])
 
-module _ (ranks : List ℕ) (me n period now : ℕ) (v : InTick me n period now) where
+module _ (me n period now : ℕ) (v : InTick me n period now) where
   hm : In 8 me
   hm = inside-eight me n period (v .given)
 
   link-here : (q : ℕ) → 1 ≤ q → q ≤ n → q ≢ me → isLink n q me ≡ true
   link-here q low high ne = is-link n q me (record { low = low; high = high }) (record { low = v .given .me-low; high = v .given .me-high }) ne
 
+module _ (ranks : List ℕ) (me n period now : ℕ) (v : InTick me n period now) where
   -- nothing comes
-  quiet : (x : Station) → heardAll (byCounts ranks) n me now (λ q. underway (around ranks me n period (now - 1) x noMail) q me) (station (around ranks me n period (now - 1) x noMail) me) ≡ x
+  quiet : (x : Station) → heardAll (byOrder ranks) n me now (λ q. underway (around ranks me n period (now - 1) x noMail) q me) (station (around ranks me n period (now - 1) x noMail) me) ≡ x
   quiet x =
-      heardAll-each (byCounts ranks) n me now (λ q. underway (around ranks me n period (now - 1) x noMail) q me) (station (around ranks me n period (now - 1) x noMail) me)
-      ∙ hears-nobody (byCounts ranks) ranks me n period (now - 1) now x noMail hm n (v .given .n-high) (station (around ranks me n period (now - 1) x noMail) me) (λ p h. refl)
-      ∙ around-station ranks me n period (now - 1) x noMail hm
+      heardAll-each (byOrder ranks) n me now (λ q. underway (around ranks me n period (now - 1) x noMail) q me) (station (around ranks me n period (now - 1) x noMail) me)
+      ∙ hears-nobody (byOrder ranks) ranks me n period (now - 1) now x noMail (hm me n period now v) n (v .given .n-high) (station (around ranks me n period (now - 1) x noMail) me) (λ p h. refl)
+      ∙ around-station ranks me n period (now - 1) x noMail (hm me n period now v)
 
   -- after (a) and (b)
-  settled-now : (x y : Station) (mail : ℕ → List Message) → x .up ≡ true → heardAll (byCounts ranks) n me now (λ q. underway (around ranks me n period (now - 1) x mail) q me) (station (around ranks me n period (now - 1) x mail) me) ≡ y → settled (around ranks me n period (now - 1) x mail) me ≡ expiredNow (expired me) now y
+  settled-now : (x y : Station) (mail : ℕ → List Message) → x .up ≡ true → heardAll (byOrder ranks) n me now (λ q. underway (around ranks me n period (now - 1) x mail) q me) (station (around ranks me n period (now - 1) x mail) me) ≡ y → settled (around ranks me n period (now - 1) x mail) me ≡ expiredNow (expired me) now y
   settled-now x y mail u h =
       let e : now - 1 + 1 ≡ now = omega (arith, v .tick-low) in
       let s : System = around ranks me n period (now - 1) x mail in
-      settled-up s me (ap (λ z. z .up) (around-station ranks me n period (now - 1) x mail hm) ∙ u)
-      ∙ ap (λ t. expiredNow (expired me) t (heardAll (byCounts ranks) n me t (λ q. underway s q me) (station s me))) e
+      settled-up s me (ap (λ z. z .up) (around-station ranks me n period (now - 1) x mail (hm me n period now v)) ∙ u)
+      ∙ ap (λ t. expiredNow (expired me) t (heardAll (byOrder ranks) n me t (λ q. underway s q me) (station s me))) e
       ∙ ap (expiredNow (expired me) now) h
 
 -- the leader's mail may be under way
@@ -81,7 +82,7 @@ leader-mail : (ranks : List ℕ) (me n period now : ℕ) (x : Station) → InTic
 leader-mail ranks me n period now x v st j =
     let o : Message = dueNow now (now - 1) (replicate 8 0) in
     also-mail me n period (now - 1) (x .leader) (o ∷ []) noMail
-    (link-here ranks me n period now v (x .leader) (st .living .leader-low) (st .living .leader-high) (set-other ranks me now x j))
+    (link-here me n period now v (x .leader) (st .living .leader-low) (st .living .leader-high) (set-other ranks me now x j))
     (carries-one n period (now - 1) o (due-now n period now (now - 1) (replicate 8 0) (v .tick-low) (omega arith) (omega (arith, v .tick-low)) (zeros-in n)))
     (no-mail me n period (now - 1))
 
@@ -108,14 +109,14 @@ module _ (ranks : List ℕ) (me n period now q : ℕ) (v : List ℕ) (x : Statio
   youngest-due = due-now n period now (now - 1) v (h .values .tick-low) (omega arith) (omega (arith, h .values .tick-low)) (h .message .counts)
 
   from-q : isLink n q me ≡ true
-  from-q = link-here ranks me n period now (h .values) q (h .message .low) (h .message .high) (h .message .other)
+  from-q = link-here me n period now (h .values) q (h .message .low) (h .message .high) (h .message .other)
 
   -- after the senders below q, in the system around y
   abbrev heardLower : Station → (ℕ → List Message) → Station → Station
-  heardLower y mail z = each (q - 1) (λ k. heardLink (byCounts ranks) me (k + 1) now (underway (around ranks me n period (now - 1) y mail) (k + 1) me)) z
+  heardLower y mail z = each (q - 1) (λ k. heardLink (byOrder ranks) me (k + 1) now (underway (around ranks me n period (now - 1) y mail) (k + 1) me)) z
 
   -- handed by the system around an earlier station
-  handed-by : (y : Station) (mail : ℕ → List Message) (older : List Message) → Inbox me n period (now - 1) mail → fit me n period (now - 1) y ≡ true → y .up ≡ true → mail q ≡ older ++ (youngest ∷ []) → heardLink (byCounts ranks) me q now older (heardLower y mail y) ≡ x → FullHears ranks me n period now q v x
+  handed-by : (y : Station) (mail : ℕ → List Message) (older : List Message) → Inbox me n period (now - 1) mail → fit me n period (now - 1) y ≡ true → y .up ≡ true → mail q ≡ older ++ (youngest ∷ []) → heardLink (byOrder ranks) me q now older (heardLower y mail y) ≡ x → FullHears ranks me n period now q v x
   handed-by y mail older m f u e s = (
     record {
       system = around ranks me n period (now - 1) y mail;
@@ -127,10 +128,10 @@ module _ (ranks : List ℕ) (me n period now q : ℕ) (v : List ℕ) (x : Statio
       older = older;
       message = youngest;
       younger = [];
-      is-mail = around-underway ranks me n period (now - 1) y mail q (record { low = h .message .low; high = omega (arith, h .message .high, h .values .given .n-high) }) (hm ranks me n period now (h .values)) ∙ e;
+      is-mail = around-underway ranks me n period (now - 1) y mail q (record { low = h .message .low; high = omega (arith, h .message .high, h .values .given .n-high) }) (hm me n period now (h .values)) ∙ e;
       is-due = refl;
       is-counts = refl;
-      is-station = ap (λ z. heardLink (byCounts ranks) me q now older (heardLower y mail z)) (around-station ranks me n period (now - 1) y mail (hm ranks me n period now (h .values))) ∙ s;
+      is-station = ap (λ z. heardLink (byOrder ranks) me q now older (heardLower y mail z)) (around-station ranks me n period (now - 1) y mail (hm me n period now (h .values))) ∙ s;
     },
     around-full ranks me n period (now - 1) y mail eight (λ p. m .carried p .few),
   )
@@ -144,8 +145,8 @@ module _ (ranks : List ℕ) (me n period now q : ℕ) (v : List ℕ) (x : Statio
       (of-fit me n period (now - 1) x (h .values .given) (h .kept) (h .stands) t)
       (h .stands .living .up)
       (also-own q (youngest ∷ []) noMail)
-      (heard-none (byCounts ranks) me q now [] (heardLower x mail x) refl
-      ∙ hears-nobody (byCounts ranks) ranks me n period (now - 1) now x mail (hm ranks me n period now (h .values)) (q - 1) (omega (arith, h .message .high, h .values .given .n-high)) x (λ p i. also-others q (youngest ∷ []) noMail p (λ e. omega (arith, h .message .low))))
+      (heard-none (byOrder ranks) me q now [] (heardLower x mail x) refl
+      ∙ hears-nobody (byOrder ranks) ranks me n period (now - 1) now x mail (hm me n period now (h .values)) (q - 1) (omega (arith, h .message .high, h .values .given .n-high)) x (λ p i. also-others q (youngest ∷ []) noMail p (λ e. omega (arith, h .message .low))))
 
   module _ (l : Eight x) (j : JustSet ranks me now x) where
     abbrev earlierFits : fit me n period (now - 1) (trusting me 0 x) ≡ true
@@ -161,11 +162,11 @@ module _ (ranks : List ℕ) (me n period now q : ℕ) (v : List ℕ) (x : Statio
         let m : Inbox me n period (now - 1) mail = also-mail me n period (now - 1) q (youngest ∷ []) (leaderMail now x) from-q (carries-one n period (now - 1) youngest youngest-due) w in
         handed-by y mail [] m earlierFits (h .stands .living .up)
         (also-own q (youngest ∷ []) (leaderMail now x))
-        (heard-none (byCounts ranks) me q now [] (heardLower y mail y) refl
-        ∙ hears-only (byCounts ranks) ranks me n period (now - 1) now y mail (hm ranks me n period now (h .values)) (q - 1) (omega (arith, h .message .high, h .values .given .n-high)) y (x .leader) (h .stands .living .leader-low) (omega arith)
+        (heard-none (byOrder ranks) me q now [] (heardLower y mail y) refl
+        ∙ hears-only (byOrder ranks) ranks me n period (now - 1) now y mail (hm me n period now (h .values)) (q - 1) (omega (arith, h .message .high, h .values .given .n-high)) y (x .leader) (h .stands .living .leader-low) (omega arith)
         (λ p i ne. also-others q (youngest ∷ []) (leaderMail now x) p (λ e. omega (arith, h .message .low)) ∙ also-others (x .leader) (o ∷ []) noMail p ne)
-        ∙ ap (λ ms. heardLink (byCounts ranks) me (x .leader) now ms y) (also-others q (youngest ∷ []) (leaderMail now x) (x .leader) (λ e. omega arith) ∙ also-own (x .leader) (o ∷ []) noMail)
-        ∙ hears-one (byCounts ranks) me (x .leader) now y o refl
+        ∙ ap (λ ms. heardLink (byOrder ranks) me (x .leader) now ms y) (also-others q (youngest ∷ []) (leaderMail now x) (x .leader) (λ e. omega arith) ∙ also-own (x .leader) (o ∷ []) noMail)
+        ∙ hears-one (byOrder ranks) me (x .leader) now y o refl
         ∙ leader-heard me n period now x (h .values .given) (h .stands) ranks (ranked-of n ranks (h .ranked)) j (l .counts))
 
     -- where it is q, with an older message
@@ -178,9 +179,9 @@ module _ (ranks : List ℕ) (me n period now q : ℕ) (v : List ℕ) (x : Statio
         let m : Inbox me n period (now - 1) (only q ms) = also-mail me n period (now - 1) q ms noMail from-q (carries-two n period (now - 1) o youngest u youngest-due (omega arith)) (no-mail me n period (now - 1)) in
         handed-by y (only q ms) (o ∷ []) m earlierFits (h .stands .living .up)
         (also-own q ms noMail)
-        (ap (heardLink (byCounts ranks) me q now (o ∷ []))
-        (hears-nobody (byCounts ranks) ranks me n period (now - 1) now y (only q ms) (hm ranks me n period now (h .values)) (q - 1) (omega (arith, h .message .high, h .values .given .n-high)) y (λ p i. also-others q ms noMail p (λ e. omega (arith, h .message .low))))
-        ∙ hears-one (byCounts ranks) me q now y o refl
+        (ap (heardLink (byOrder ranks) me q now (o ∷ []))
+        (hears-nobody (byOrder ranks) ranks me n period (now - 1) now y (only q ms) (hm me n period now (h .values)) (q - 1) (omega (arith, h .message .high, h .values .given .n-high)) y (λ p i. also-others q ms noMail p (λ e. omega (arith, h .message .low))))
+        ∙ hears-one (byOrder ranks) me q now y o refl
         ∙ ap (λ p. heard ranks me p (replicate 8 0) now y) (sym e)
         ∙ leader-heard me n period now x (h .values .given) (h .stands) ranks (ranked-of n ranks (h .ranked)) j (l .counts))
 
@@ -233,11 +234,11 @@ module _ (ranks : List ℕ) (me n period now : ℕ) (x : Station) (eight : lengt
         (earlier-fits me n period now x (d .values .given) stands (d .kept))
         (d .living .up)
         (settled-now ranks me n period now (d .values) y x (leaderMail now x) (d .living .up)
-        (heardAll-each (byCounts ranks) n me now (λ q. underway s q me) (station s me)
-        ∙ hears-only (byCounts ranks) ranks me n period (now - 1) now y (leaderMail now x) (hm ranks me n period now (d .values)) n (d .values .given .n-high) (station s me) (x .leader) (d .living .leader-low) (d .living .leader-high) (λ p i ne. also-others (x .leader) (o ∷ []) noMail p ne)
-        ∙ ap (λ ms. heardLink (byCounts ranks) me (x .leader) now ms (station s me)) (also-own (x .leader) (o ∷ []) noMail)
-        ∙ ap (heardLink (byCounts ranks) me (x .leader) now (o ∷ [])) (around-station ranks me n period (now - 1) y (leaderMail now x) (hm ranks me n period now (d .values)))
-        ∙ hears-one (byCounts ranks) me (x .leader) now y o refl
+        (heardAll-each (byOrder ranks) n me now (λ q. underway s q me) (station s me)
+        ∙ hears-only (byOrder ranks) ranks me n period (now - 1) now y (leaderMail now x) (hm me n period now (d .values)) n (d .values .given .n-high) (station s me) (x .leader) (d .living .leader-low) (d .living .leader-high) (λ p i ne. also-others (x .leader) (o ∷ []) noMail p ne)
+        ∙ ap (λ ms. heardLink (byOrder ranks) me (x .leader) now ms (station s me)) (also-own (x .leader) (o ∷ []) noMail)
+        ∙ ap (heardLink (byOrder ranks) me (x .leader) now (o ∷ [])) (around-station ranks me n period (now - 1) y (leaderMail now x) (hm me n period now (d .values)))
+        ∙ hears-one (byOrder ranks) me (x .leader) now y o refl
         ∙ leader-heard me n period now x (d .values .given) stands ranks (ranked-of n ranks (d .ranked)) j (l .counts))
         ∙ timer-runs (expired me) now x (λ e. omega (arith, j .ends, t .0, d .values .given .period-low)))
 

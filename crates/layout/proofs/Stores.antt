@@ -60,9 +60,9 @@ links-store used used′ ms ms′ k l h others e =
         ∙ sym (ap (λ j. getD (set (linksOf used ms) k l) j noLink) i ∙ getD-set-same (linksOf used ms) k l noLink (omega (arith, length-links used ms)))
     at j b (no i) = link-at used′ ms′ j b ∙ others j i ∙ sym (getD-set-other (linksOf used ms) k j l noLink i ∙ link-at used ms j b)
 
--- the layout with other stations, sent counts, delays, counts of messages and messages; all else stays
-abbrev pub relaid : List Station → List ℕ → List ℕ → List ℕ → List Message → Layout → Layout
-relaid stations sent delays used messages s =
+-- the layout with other stations, sent counts, delays, counts of messages, messages and ranks; all else stays
+abbrev pub relaid : List Station → List ℕ → List ℕ → List ℕ → List Message → List ℕ → Layout → Layout
+relaid stations sent delays used messages ranks s =
     record {
       ready = s .ready;
       n = s .n;
@@ -73,40 +73,27 @@ relaid stations sent delays used messages s =
       delays = delays;
       used = used;
       messages = messages;
-      ranks = s .ranks;
+      ranks = ranks;
     }
 
 -- .. with one of these alone
 abbrev pub withStations : List Station → Layout → Layout
-withStations xs s = relaid xs (s .sent) (s .delays) (s .used) (s .messages) s
+withStations xs s = relaid xs (s .sent) (s .delays) (s .used) (s .messages) (s .ranks) s
 
 abbrev pub withSent : List ℕ → Layout → Layout
-withSent cs s = relaid (s .stations) cs (s .delays) (s .used) (s .messages) s
+withSent cs s = relaid (s .stations) cs (s .delays) (s .used) (s .messages) (s .ranks) s
 
 abbrev pub withDelays : List ℕ → Layout → Layout
-withDelays ds s = relaid (s .stations) (s .sent) ds (s .used) (s .messages) s
+withDelays ds s = relaid (s .stations) (s .sent) ds (s .used) (s .messages) (s .ranks) s
 
 abbrev pub withUsed : List ℕ → Layout → Layout
-withUsed us s = relaid (s .stations) (s .sent) (s .delays) us (s .messages) s
+withUsed us s = relaid (s .stations) (s .sent) (s .delays) us (s .messages) (s .ranks) s
 
 abbrev pub withMessages : List Message → Layout → Layout
-withMessages ms s = relaid (s .stations) (s .sent) (s .delays) (s .used) ms s
+withMessages ms s = relaid (s .stations) (s .sent) (s .delays) (s .used) ms (s .ranks) s
 
--- the layout with other ranks
 abbrev pub withRanks : List ℕ → Layout → Layout
-withRanks rs s =
-    record {
-      ready = s .ready;
-      n = s .n;
-      period = s .period;
-      tick = s .tick;
-      stations = s .stations;
-      sent = s .sent;
-      delays = s .delays;
-      used = s .used;
-      messages = s .messages;
-      ranks = rs;
-    }
+withRanks rs s = relaid (s .stations) (s .sent) (s .delays) (s .used) (s .messages) rs s
 
 -- the places from `to` up to j are zero, and the others as they were
 pub record Clearing (k : ℕ) (s₀ s : Layout) (to j : ℕ) : Type 0 where

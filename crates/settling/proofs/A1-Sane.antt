@@ -7,6 +7,7 @@ use Prim.Native.Nat.{ℕ, _+_, _-_, _≤_, _<_, max}
 use native.Mathlib.Omega.{arith}
 use native.Mathlib.Decide.{ℕ-discrete}
 use lib.ListN.{length, getD}
+use Rattle.station.specs.Limits.{mostRank}
 use Rattle.station.specs.Order.{entry}
 use Rattle.station.specs.Rules.{joined, heard, expired, slotted}
 use Rattle.station.specs.declared.Station.{Station}
@@ -22,7 +23,7 @@ pub slots-elim : (P : Station → Type 0) (period now : ℕ) (x : Station) → (
 slots-elim P period now x a b = slottedNow-elim P (slotted period now) now x (λ e. slotted-elim P period now x (a e)) b
 
 -- the rank of a station
-pub rank-high : (ranks : List ℕ) → Ranked ranks → (n : ℕ) → n ≤ 8 → (q : ℕ) → In n q → entry ranks q ≤ 7
+pub rank-high : (ranks : List ℕ) → Ranked ranks → (n : ℕ) → n ≤ 8 → (q : ℕ) → In n q → entry ranks q ≤ mostRank
 rank-high ranks ranked n small q i = ranked q (omega (arith, i .high))
 
 -- the entry of joined counts
@@ -54,25 +55,13 @@ pub record Sane (ranks : List ℕ) (n period : ℕ) (S : ℕ → Bool) (C : ℕ 
   pub on : x .leader ≢ p → b ≤ x .timer
   pub off : x .leader ≡ p → x .timer ≡ 0
 
-module _ (ranks : List ℕ) (ranked : Ranked ranks) (n period : ℕ) (small : n ≤ 8) (S : ℕ → Bool) (C : ℕ → ℕ) (p : ℕ) (ip : In n p) where
+module _ (ranks : List ℕ) (n period : ℕ) (small : n ≤ 8) (S : ℕ → Bool) (C : ℕ → ℕ) (p : ℕ) (ip : In n p) where
   -- the counts after a message
   pub joined-own : (b : ℕ) (v : List ℕ) (x : Station) → S p ≡ true → Known n S C v → Sane ranks n period S C p b x → entry (joined (x .recovered) v) p ≡ C p
   joined-own b v x Sp hv h = omega (arith, entry-joined n small (x .recovered) v p ip, hv p ip Sp, h .own)
 
   pub joined-low : (b : ℕ) (v : List ℕ) (x : Station) → Known n S C v → Sane ranks n period S C p b x → Known n S C (joined (x .recovered) v)
   joined-low b v x hv h q iq Sq = omega (arith, entry-joined n small (x .recovered) v q iq, hv q iq Sq, h .low q iq Sq)
-
-  pub hear-sane : (now q : ℕ) (v : List ℕ) (x : Station) → S p ≡ true → In n q → q ≢ p → Known n S C v → Sane ranks n period S C p now x → Sane ranks n period S C p now (heard ranks p q v now x)
-  hear-sane now q v x Sp iq qp hv h =
-      let k : List ℕ = joined (x .recovered) v in
-      let own : entry k p ≡ C p = joined-own now v x Sp hv h in
-      let low : Known n S C k = joined-low now v x hv h in
-      heard-elim (Sane ranks n period S C p now) ranks p q now v x k ranked (omega (arith, ip .high)) (omega (arith, iq .high)) (omega (arith, h .range .high)) refl
-      (λ a b.
-      record { own = own; low = low; range = iq; ahead = λ ne. omega (arith, ip .high, iq .high, rank-high ranks ranked n small p ip, rank-high ranks ranked n small q iq); slow = h .slow; on = λ ne. omega arith; off = λ e. absurd (qp e) })
-      (λ a b. record { own = own; low = low; range = ip; ahead = λ ne. absurd (ne refl); slow = h .slow; on = λ ne. absurd (ne refl); off = λ e. refl })
-      (λ a b.
-      record { own = own; low = low; range = h .range; ahead = λ ne. omega (arith, ip .high, h .range .high, rank-high ranks ranked n small p ip, rank-high ranks ranked n small (x .leader) (h .range)); slow = h .slow; on = h .on; off = h .off })
 
   -- a timer that is due runs for another station, whose timeout has a place
   pub due-other : (now : ℕ) (x : Station) → 1 ≤ now → Sane ranks n period S C p now x → x .timer ≡ now → x .leader ≢ p
@@ -103,3 +92,17 @@ module _ (ranks : List ℕ) (ranked : Ranked ranks) (n period : ℕ) (small : n 
       slots-elim (Sane ranks n period S C p b) period now x
       (λ e. record { own = h .own; low = h .low; range = h .range; ahead = h .ahead; slow = h .slow; on = h .on; off = h .off })
       (λ e. h)
+
+-- hearing compares candidates, so it needs ranks in range
+module _ (ranks : List ℕ) (ranked : Ranked ranks) (n period : ℕ) (small : n ≤ 8) (S : ℕ → Bool) (C : ℕ → ℕ) (p : ℕ) (ip : In n p) where
+  pub hear-sane : (now q : ℕ) (v : List ℕ) (x : Station) → S p ≡ true → In n q → q ≢ p → Known n S C v → Sane ranks n period S C p now x → Sane ranks n period S C p now (heard ranks p q v now x)
+  hear-sane now q v x Sp iq qp hv h =
+      let k : List ℕ = joined (x .recovered) v in
+      let own : entry k p ≡ C p = joined-own ranks n period small S C p ip now v x Sp hv h in
+      let low : Known n S C k = joined-low ranks n period small S C p ip now v x hv h in
+      heard-elim (Sane ranks n period S C p now) ranks p q now v x k ranked (omega (arith, ip .high)) (omega (arith, iq .high)) (omega (arith, h .range .high)) refl
+      (λ a b.
+      record { own = own; low = low; range = iq; ahead = λ ne. omega (arith, ip .high, iq .high, rank-high ranks ranked n small p ip, rank-high ranks ranked n small q iq); slow = h .slow; on = λ ne. omega arith; off = λ e. absurd (qp e) })
+      (λ a b. record { own = own; low = low; range = ip; ahead = λ ne. absurd (ne refl); slow = h .slow; on = λ ne. absurd (ne refl); off = λ e. refl })
+      (λ a b.
+      record { own = own; low = low; range = h .range; ahead = λ ne. omega (arith, ip .high, h .range .high, rank-high ranks ranked n small p ip, rank-high ranks ranked n small (x .leader) (h .range)); slow = h .slow; on = h .on; off = h .off })

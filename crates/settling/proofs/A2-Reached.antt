@@ -56,7 +56,7 @@ module _ (s : System) (h : Reached s) where
   pub settled-sane : (p : ℕ) → In (s .n) p → station s p .up ≡ true → Sane (s .ranks) (s .n) (s .period) always (counts s) p (next s + 1) (settled s p)
   settled-sane p ip u =
       rw (settled-up s p u)
-      (expire-sane (s .ranks) ranked (s .n) (s .period) small always (counts s) p ip (next s) _ (omega arith)
+      (expire-sane (s .ranks) (s .n) (s .period) small always (counts s) p ip (next s) _ (omega arith)
       (all-keeps (hearing s) (Sane (s .ranks) (s .n) (s .period) always (counts s) p (next s)) (λ q m. (q ≢ p) × Low s m) (s .n) p (next s) (λ q. underway s q p)
       (λ q m y iq f. hear-sane (s .ranks) ranked (s .n) (s .period) small always (counts s) p ip (next s) q (m .counts) y refl iq (f .0) (λ x ix t. f .1 x ix))
       (λ q iq. all-map (λ m. (q ≢ p) × Low s m) _ (λ m f e. f) (underway s q p) (inbox-all s (h .sound) (λ q. Low s) p ip (λ q iq ne. h .mail q p iq ip ne) q iq))
@@ -65,7 +65,7 @@ module _ (s : System) (h : Reached s) where
   heads′ : (p : ℕ) → In (s .n) p → station (tick s) p .up ≡ true → Sane (s .ranks) (s .n) (s .period) always (counts (tick s)) p (next s + 1) (station (tick s) p)
   heads′ p ip u =
       recount (s .ranks) (s .n) (s .period) (counts s) (counts (tick s)) p (next s + 1) (station (tick s) p) ip (λ x ix. le-of-eq (sym (tick-count s small x ix))) (sym (tick-count s small p ip))
-      (rw (tick-station s small p ip) (slot-sane (s .ranks) ranked (s .n) (s .period) small always (counts s) p ip (next s + 1) (next s) (settled s p) (settled-sane p ip (sym (tick-up s small p ip) ∙ u))))
+      (rw (tick-station s small p ip) (slot-sane (s .ranks) (s .n) (s .period) small always (counts s) p ip (next s + 1) (next s) (settled s p) (settled-sane p ip (sym (tick-up s small p ip) ∙ u))))
 
   paced′ : (p : ℕ) → In (s .n) p → station (tick s) p .up ≡ true → station (tick s) p .recovering ≡ false → station (tick s) p .slot ≤ next s + s .period
   paced′ p ip u =

@@ -7,15 +7,13 @@ use Prim.Native.Nat.{ℕ, _+_, _-_, _≤_, _<_}
 use native.Mathlib.Decide.{ℕ-discrete}
 use native.Mathlib.Nat.{le-refl}
 use native.Mathlib.Omega.{arith}
-use lib.ListN.{getD, getD-replicate}
-use lib.Dec.{eqb}
-use borrow.Author.Tests.{ne-eqb, eq-eqb, eqb-true}
+use lib.ListN.{getD-replicate}
+use borrow.Author.Tests.{ne-eqb, eq-eqb}
 use Rattle.fit.specs.Fit.{longestDelay}
 use Rattle.lists.specs.Every.{All}
 use Rattle.lists.specs.First.{firstFailed}
 use Rattle.lists.proofs.Every.{all-map}
 use Rattle.lists.proofs.Sets.{set-keeps}
-use Rattle.lists.proofs.Test.{all-at}
 use Rattle.station.specs.Limits.{mostRank}
 use Rattle.station.specs.Order.{entry}
 use Rattle.station.specs.Rules.{started, crashed}
@@ -23,10 +21,10 @@ use Rattle.station.specs.declared.Station.{Station}
 use Rattle.station.proofs.Candidates.{Ranked}
 use Rattle.station.proofs.Elimination.{started-elim}
 use Rattle.station.proofs.Fields.{started-count, started-recovering, crashed-count, crashed-up}
-use Rattle.fit.proofs.Tests.{ranked-of, fit-ranges, fit-of}
+use Rattle.fit.proofs.Tests.{ranked-of, fit-ranges}
 use Rattle.station.proofs.Vectors.{other-of}
 use Rattle.election.specs.Commands.{Command, SetUp, Start, Crash, Link, Run, Lose, Report, Rank, noneStarted, tests, perform}
-use Rattle.election.specs.System.{withStation, withDelay, withoutMessages, withRank, noStation, noLink, station, place, messages, holding, underway, fresh, initial}
+use Rattle.election.specs.System.{withStation, withDelay, withoutMessages, withRank, noLink, station, place, messages, holding, underway, fresh, initial}
 use Rattle.election.specs.Sound.{sound}
 use Rattle.election.specs.Tick.{ticks}
 use Rattle.election.specs.declared.Message.{Message}
@@ -37,6 +35,7 @@ use Rattle.election.proofs.Changes.{start-sound, crash-sound, delay-sound, lose
 use Rattle.election.proofs.InitialSound.{fresh-sound, initial-station, initial-sound}
 use Rattle.election.proofs.KeepsSound.{perform-keeps}
 use Rattle.election.proofs.Places.{In, place-in, widen, same-place}
+use Rattle.election.proofs.Ranks.{nobody-up}
 use Rattle.election.proofs.Counts.{counts}
 use Rattle.election.proofs.Followed.{Allowed}
 use Rattle.election.specs.History.{reached}
@@ -140,12 +139,6 @@ lose-reached s h a b ia ib ne =
 pub delay-reached : (s : System) → Reached s → (a b d : ℕ) → In (s .n) a → In (s .n) b → a ≢ b → d ≤ longestDelay → Reached (withDelay a b d s)
 delay-reached s h a b d ia ib ne few =
     record { sound = delay-sound s (h .sound) a b ia ib ne d few; heads = h .heads; paced = h .paced; mail = h .mail }
-
--- a rank is set while no head was ever started, so that none is up
-nobody-up : (s : System) → Sound s → noneStarted (s .stations) ≡ true → (p : ℕ) → In (s .n) p → station s p .up ≡ true → ⊥
-nobody-up s f none p ip u =
-    let zero : station s p .incarnation ≡ 0 = eqb-true _ 0 (all-at 8 (p - 1) (λ k. eqb (getD (s .stations) k noStation .incarnation) 0) none (omega (arith, ip .low, ip .high, f .n-high))) in
-    omega (arith, fit-of p (s .n) (s .period) (s .tick) (station s p) (f .fits p ip) u .0 .living .count)
 
 pub rank-reached : (s : System) → Reached s → (p r : ℕ) → In (s .n) p → r ≤ mostRank → noneStarted (s .stations) ≡ true → Reached (withRank p r s)
 rank-reached s h p r ip few none =

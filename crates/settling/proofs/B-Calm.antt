@@ -3,9 +3,10 @@ use mathlib.Core.Path.{_≡_, refl, ap}
 use mathlib.Core.Logic.{_≢_}
 use mathlib.Core.Bool.{Bool, true}
 use mathlib.Core.List.{List}
-use Prim.Native.Nat.{ℕ, _+_, _-_, _*_, _≤_, _<_}
+use Prim.Native.Nat.{ℕ, _+_, _*_, _≤_, _<_}
 use native.Mathlib.Omega.{arith}
 use native.Mathlib.Decide.{ℕ-discrete, decLt}
+use Rattle.station.specs.Limits.{mostRank}
 use Rattle.station.specs.Order.{entry}
 use Rattle.station.specs.Rules.{joined, heard, expired, slotted}
 use Rattle.station.specs.declared.Station.{Station}
@@ -41,8 +42,8 @@ keyAt K p = key (K .C p) (entry (K .ranks) p) p
 abbrev pub keyL : Stretch → ℕ
 keyL K = keyAt K (K .L)
 
-pub rank-low : (K : Stretch) (p : ℕ) → In (K .n) p → entry (K .ranks) p ≤ 7
-rank-low K p ip = rank-high (K .ranks) (K .ranked) (K .n) (K .small) p ip
+pub rank-in : (K : Stretch) (p : ℕ) → In (K .n) p → entry (K .ranks) p ≤ mostRank
+rank-in K p ip = rank-high (K .ranks) (K .ranked) (K .n) (K .small) p ip
 
 -- In a stretch: timeouts are at most M and the ticks passed; and a leader that is before L has a timer that ends by since + M + 2 d.
 pub record Calm (K : Stretch) (p b : ℕ) (x : Station) : Type 0 where
@@ -59,8 +60,8 @@ module _ (K : Stretch) (p : ℕ) (ip : In (K .n) p) (Sp : K .steady p ≡ true) 
   pub hear-calm : (now q : ℕ) (v : List ℕ) (x : Station) → In (K .n) q → q ≢ p → Fair K now q v → Calm K p now x → Calm K p now (heard (K .ranks) p q v now x)
   hear-calm now q v x iq qp f h =
       let k : List ℕ = joined (x .recovered) v in
-      let own : entry k p ≡ K .C p = joined-own (K .ranks) (K .ranked) (K .n) (K .period) (K .small) (K .steady) (K .C) p ip now v x Sp (f .counts) (h .sane) in
-      let own-late : p ≢ K .L → keyOf (K .ranks) k p ≤ keyL K → ⊥ = λ ne le. omega (arith, ip .high, K .L-in .high, K .small, rank-low K p ip, rank-low K (K .L) (K .L-in)) in
+      let own : entry k p ≡ K .C p = joined-own (K .ranks) (K .n) (K .period) (K .small) (K .steady) (K .C) p ip now v x Sp (f .counts) (h .sane) in
+      let own-late : p ≢ K .L → keyOf (K .ranks) k p ≤ keyL K → ⊥ = λ ne le. omega (arith, ip .high, K .L-in .high, K .small, rank-in K p ip, rank-in K (K .L) (K .L-in)) in
       heard-elim (λ (y : Station). Sane (K .ranks) (K .n) (K .period) (K .steady) (K .C) p now y → Calm K p now y) (K .ranks) p q now v x k (K .ranked) (omega (arith, ip .high, K .small)) (omega (arith, iq .high, K .small)) (omega (arith, h .sane .range .high, K .small)) refl
       (λ a b z.
       record { sane = z; quick = h .quick; dying = λ ne le. omega (arith, h .quick q iq qp, f .old ne (omega (arith, entry-joined (K .n) (K .small) (x .recovered) v q iq))) })
@@ -72,22 +73,22 @@ module _ (K : Stretch) (p : ℕ) (ip : In (K .n) p) (Sp : K .steady p ≡ true) 
   expire-calm now x low h =
       expiredNow-elim (λ (y : Station). Sane (K .ranks) (K .n) (K .period) (K .steady) (K .C) p (now + 1) y → Calm K p (now + 1) y) (expired p) now x
       (λ e.
-      expired-elim (λ (y : Station). Sane (K .ranks) (K .n) (K .period) (K .steady) (K .C) p (now + 1) y → Calm K p (now + 1) y) p x (due-place (K .ranks) (K .ranked) (K .n) (K .period) (K .small) (K .steady) (K .C) p ip now x low (h .sane) e)
+      expired-elim (λ (y : Station). Sane (K .ranks) (K .n) (K .period) (K .steady) (K .C) p (now + 1) y → Calm K p (now + 1) y) p x (due-place (K .ranks) (K .n) (K .period) (K .small) (K .steady) (K .C) p ip now x low (h .sane) e)
       (λ t size at same z.
       record {
         sane = z;
         quick = λ q iq ne. omega (arith, h .quick q iq ne, raised x t at same q .1);
-        dying = λ ne le. omega (arith, h .sane .own, ip .high, K .L-in .high, K .small, rank-low K p ip, rank-low K (K .L) (K .L-in));
+        dying = λ ne le. omega (arith, h .sane .own, ip .high, K .L-in .high, K .small, rank-in K p ip, rank-in K (K .L) (K .L-in));
       }))
       (λ e z. record { sane = z; quick = λ q iq ne. omega (arith, h .quick q iq ne); dying = h .dying })
-      (expire-sane (K .ranks) (K .ranked) (K .n) (K .period) (K .small) (K .steady) (K .C) p ip now x low (h .sane))
+      (expire-sane (K .ranks) (K .n) (K .period) (K .small) (K .steady) (K .C) p ip now x low (h .sane))
 
   pub slot-calm : (b now : ℕ) (x : Station) → Calm K p b x → Calm K p b (slottedNow (slotted (K .period) now) now x)
   slot-calm b now x h =
       slots-elim (λ (y : Station). Sane (K .ranks) (K .n) (K .period) (K .steady) (K .C) p b y → Calm K p b y) (K .period) now x
       (λ e z. record { sane = z; quick = h .quick; dying = h .dying })
       (λ e z. h)
-      (slot-sane (K .ranks) (K .ranked) (K .n) (K .period) (K .small) (K .steady) (K .C) p ip b now x (h .sane))
+      (slot-sane (K .ranks) (K .n) (K .period) (K .small) (K .steady) (K .C) p ip b now x (h .sane))
 
   -- From then on every leader is L or after L.
   pub calm-late : (b : ℕ) (x : Station) → Calm K p b x → K .since + K .M + 2 * K .d < b → x .leader ≢ K .L → keyL K < keyOf (K .ranks) (x .recovered) (x .leader)
@@ -97,7 +98,7 @@ module _ (K : Stretch) (p : ℕ) (ip : In (K .n) p) (Sp : K .steady p ≡ true) 
       go t (yes y) = y
       go (yes e) (no f) =
           let c : keyOf (K .ranks) (x .recovered) (x .leader) ≡ keyOf (K .ranks) (x .recovered) p = ap (λ z. keyOf (K .ranks) (x .recovered) z) e in
-          omega (arith, h .sane .own, ip .high, K .L-in .high, K .small, rank-low K p ip, rank-low K (K .L) (K .L-in))
+          omega (arith, h .sane .own, ip .high, K .L-in .high, K .small, rank-in K p ip, rank-in K (K .L) (K .L-in))
       go (no np) (no f) = absurd (f (omega (arith, h .sane .on np, h .dying ne (omega arith))))
 
 -- So L trusts itself.
@@ -125,8 +126,8 @@ module _ (K : Stretch) (p now : ℕ) (ip : In (K .n) p) (Sp : K .steady p ≡ tr
   pub hear-L : (v : List ℕ) (x : Station) → Fair K now (K .L) v → Calm K p now x → Trusts K (now + entry (x .timeouts) (K .L)) (heard (K .ranks) p (K .L) v now x)
   hear-L v x f h =
       let k : List ℕ = joined (x .recovered) v in
-      let own : entry k p ≡ K .C p = joined-own (K .ranks) (K .ranked) (K .n) (K .period) (K .small) (K .steady) (K .C) p ip now v x Sp (f .counts) (h .sane) in
-      let low : entry k (K .L) ≤ K .C (K .L) = joined-low (K .ranks) (K .ranked) (K .n) (K .period) (K .small) (K .steady) (K .C) p ip now v x (f .counts) (h .sane) (K .L) (K .L-in) (K .L-steady) in
+      let own : entry k p ≡ K .C p = joined-own (K .ranks) (K .n) (K .period) (K .small) (K .steady) (K .C) p ip now v x Sp (f .counts) (h .sane) in
+      let low : entry k (K .L) ≤ K .C (K .L) = joined-low (K .ranks) (K .n) (K .period) (K .small) (K .steady) (K .C) p ip now v x (f .counts) (h .sane) (K .L) (K .L-in) (K .L-steady) in
       heard-elim (Trusts K (now + entry (x .timeouts) (K .L))) (K .ranks) p (K .L) now v x k (K .ranked) (omega (arith, ip .high, K .small)) (omega (arith, K .L-in .high, K .small)) (omega (arith, h .sane .range .high, K .small)) refl
       (λ a b. record { leader-L = refl; timer-at = refl })
       (λ a b. absurd (omega arith))
@@ -139,8 +140,8 @@ module _ (K : Stretch) (p now : ℕ) (ip : In (K .n) p) (Sp : K .steady p ≡ tr
   hear-other q t v x iq ne f h g =
       let k : List ℕ = joined (x .recovered) v in
       let e′ : keyOf (K .ranks) k (x .leader) ≡ keyOf (K .ranks) k (K .L) = ap (λ z. keyOf (K .ranks) k z) (g .leader-L) in
-      let own : entry k p ≡ K .C p = joined-own (K .ranks) (K .ranked) (K .n) (K .period) (K .small) (K .steady) (K .C) p ip now v x Sp (f .counts) (h .sane) in
-      let low : entry k (K .L) ≤ K .C (K .L) = joined-low (K .ranks) (K .ranked) (K .n) (K .period) (K .small) (K .steady) (K .C) p ip now v x (f .counts) (h .sane) (K .L) (K .L-in) (K .L-steady) in
+      let own : entry k p ≡ K .C p = joined-own (K .ranks) (K .n) (K .period) (K .small) (K .steady) (K .C) p ip now v x Sp (f .counts) (h .sane) in
+      let low : entry k (K .L) ≤ K .C (K .L) = joined-low (K .ranks) (K .n) (K .period) (K .small) (K .steady) (K .C) p ip now v x (f .counts) (h .sane) (K .L) (K .L-in) (K .L-steady) in
       let after : keyL K < keyOf (K .ranks) v q = fair-late K now q v f ne (omega arith) in
       heard-elim (Trusts K t) (K .ranks) p q now v x k (K .ranked) (omega (arith, ip .high, K .small)) (omega (arith, iq .high, K .small)) (omega (arith, h .sane .range .high, K .small)) refl
       (λ a b. absurd (omega (arith, g .leader-L, entry-joined (K .n) (K .small) (x .recovered) v q iq)))

@@ -20,7 +20,7 @@ use Rattle.station.specs.Rules.{heard, expired, slotted}
 use Rattle.station.specs.declared.Station.{Station}
 use Rattle.station.proofs.Elimination.{expired-elim}
 use Rattle.station.proofs.Unchanged.{heard-timeouts}
-use Rattle.election.specs.Heads.{byCounts}
+use Rattle.election.specs.Heads.{byOrder}
 use Rattle.election.specs.Tick.{heardLink, heardAll, expiredNow, slottedNow}
 use Rattle.election.specs.declared.Message.{Message}
 use Rattle.settling.proofs.B-Calm.{Stretch, keyAt, keyL, Calm, Fair, hear-calm, expire-calm, slot-calm, Trusts, hear-L, hear-other, hear-not}
@@ -94,10 +94,10 @@ module _ (K : Stretch) (p now : ℕ) (ip : In (K .n) p) (Sp : K .steady p ≡ tr
         go (yes e) = rw e (hear-from-L v x (rw e at f) (h .waiting))
         go (no ne) = hear-heard _ q v x iq ne f h
 
-    link-hit : (ms : List Message) (x : Station) → Due now ms → FairTo K p now (K .L) ms → Waits K p now w x → Heard K p now w hit (heardLink (byCounts (K .ranks)) p (K .L) now ms x)
+    link-hit : (ms : List Message) (x : Station) → Due now ms → FairTo K p now (K .L) ms → Waits K p now w x → Heard K p now w hit (heardLink (byOrder (K .ranks)) p (K .L) now ms x)
     unfolding heardLink
     link-hit (m ∷ ms) x (here e) f h =
-        link-keeps (byCounts (K .ranks)) (Heard K p now w hit) (λ m. (K .L ≢ p) × Fair K now (K .L) (m .counts)) p now (K .L) (λ m y. hear-again (K .L) (m .counts) y (K .L-in)) ms _ (f .1)
+        link-keeps (byOrder (K .ranks)) (Heard K p now w hit) (λ m. (K .L ≢ p) × Fair K now (K .L) (m .counts)) p now (K .L) (λ m y. hear-again (K .L) (m .counts) y (K .L-in)) ms _ (f .1)
         (cond-elim (Heard K p now w hit) (eqb (m .due) now) (λ t. hear-from-L (m .counts) x (f .0 e) h) (λ t. absurd (eqb-false _ _ t e)))
     link-hit (m ∷ ms) x (there g) f h =
         link-hit ms _ g (f .1)
@@ -105,13 +105,13 @@ module _ (K : Stretch) (p now : ℕ) (ip : In (K .n) p) (Sp : K .steady p ≡ tr
 
     module _ (inbox : ℕ → List Message) (fair : (q : ℕ) → In (K .n) q → FairTo K p now q (inbox q)) where
       step : ℕ → Station → Station
-      step k = heardLink (byCounts (K .ranks)) p (k + 1) now (inbox (k + 1))
+      step k = heardLink (byOrder (K .ranks)) p (k + 1) now (inbox (k + 1))
 
       first-waits : (m : ℕ) (x : Station) → m ≤ K .n → Waits K p now w x → Waits K p now w (each m step x)
       unfolding step
       first-waits m x top h =
           each-keeps (Waits K p now w) m step x
-          (λ k y l r. link-keeps (byCounts (K .ranks)) (Waits K p now w) (λ m. (k + 1 ≢ p) × Fair K now (k + 1) (m .counts)) p now (k + 1) (λ m z. hear-waits w (k + 1) (m .counts) z (seat-in (K .n) k (omega arith))) (inbox (k + 1)) y (fair (k + 1) (seat-in (K .n) k (omega arith))) r) h
+          (λ k y l r. link-keeps (byOrder (K .ranks)) (Waits K p now w) (λ m. (k + 1 ≢ p) × Fair K now (k + 1) (m .counts)) p now (k + 1) (λ m z. hear-waits w (k + 1) (m .counts) z (seat-in (K .n) k (omega arith))) (inbox (k + 1)) y (fair (k + 1) (seat-in (K .n) k (omega arith))) r) h
 
       first-hit : Due now (inbox (K .L)) → (m : ℕ) (x : Station) → K .L ≤ m → m ≤ K .n → Waits K p now w x → Heard K p now w hit (each m step x)
       unfolding each step
@@ -121,9 +121,9 @@ module _ (K : Stretch) (p now : ℕ) (ip : In (K .n) p) (Sp : K .steady p ≡ tr
           go : Dec (m + 1 ≡ K .L) → (m + 1 ≢ K .L → Heard K p now w hit (each m step x)) → Heard K p now w hit (step m (each m step x))
           go (yes e) rest = rw e (link-hit (inbox (K .L)) (each m step x) g (fair (K .L) (K .L-in)) (first-waits m x (omega arith) h))
           go (no ne) rest =
-              link-keeps (byCounts (K .ranks)) (Heard K p now w hit) (λ a. (m + 1 ≢ p) × Fair K now (m + 1) (a .counts)) p now (m + 1) (λ a z. hear-again (m + 1) (a .counts) z (seat-in (K .n) m (omega arith))) (inbox (m + 1)) (each m step x) (fair (m + 1) (seat-in (K .n) m (omega arith))) (rest ne)
+              link-keeps (byOrder (K .ranks)) (Heard K p now w hit) (λ a. (m + 1 ≢ p) × Fair K now (m + 1) (a .counts)) p now (m + 1) (λ a z. hear-again (m + 1) (a .counts) z (seat-in (K .n) m (omega arith))) (inbox (m + 1)) (each m step x) (fair (m + 1) (seat-in (K .n) m (omega arith))) (rest ne)
 
-      pub all-hit : Due now (inbox (K .L)) → (x : Station) → Waits K p now w x → Heard K p now w hit (heardAll (byCounts (K .ranks)) (K .n) p now inbox x)
+      pub all-hit : Due now (inbox (K .L)) → (x : Station) → Waits K p now w x → Heard K p now w hit (heardAll (byOrder (K .ranks)) (K .n) p now inbox x)
       unfolding heardAll step
       all-hit g x h = first-hit g (K .n) x (K .L-in .high) (omega arith) h
 
@@ -136,14 +136,14 @@ module _ (K : Stretch) (p now : ℕ) (ip : In (K .n) p) (Sp : K .steady p ≡ tr
             go (yes e) = rw e (all-map (λ (m : Message). m .due ≢ now) _ (λ m ne d. absurd (ne d)) (inbox (K .L)) none)
             go (no ne) = all-map (λ (m : Message). m .due ≡ now → (q ≢ p) × Fair K now q (m .counts)) _ (λ m f d. (ne, f d)) (inbox q) (fair q iq)
 
-        pub all-heard : (t : ℕ) (x : Station) → Heard K p now w t x → Heard K p now w t (heardAll (byCounts (K .ranks)) (K .n) p now inbox x)
+        pub all-heard : (t : ℕ) (x : Station) → Heard K p now w t x → Heard K p now w t (heardAll (byOrder (K .ranks)) (K .n) p now inbox x)
         all-heard t x h =
-            all-keeps (byCounts (K .ranks)) (Heard K p now w t) (λ q m. (q ≢ K .L) × ((q ≢ p) × Fair K now q (m .counts))) (K .n) p now inbox
+            all-keeps (byOrder (K .ranks)) (Heard K p now w t) (λ q m. (q ≢ K .L) × ((q ≢ p) × Fair K now q (m .counts))) (K .n) p now inbox
             (λ q m y iq f. hear-heard t q (m .counts) y iq (f .0) (f .1)) others x h
 
-        pub all-lost : (x : Station) → Lost K p now w x → Lost K p now w (heardAll (byCounts (K .ranks)) (K .n) p now inbox x)
+        pub all-lost : (x : Station) → Lost K p now w x → Lost K p now w (heardAll (byOrder (K .ranks)) (K .n) p now inbox x)
         all-lost x h =
-            all-keeps (byCounts (K .ranks)) (Lost K p now w) (λ q m. (q ≢ K .L) × ((q ≢ p) × Fair K now q (m .counts))) (K .n) p now inbox
+            all-keeps (byOrder (K .ranks)) (Lost K p now w) (λ q m. (q ≢ K .L) × ((q ≢ p) × Fair K now q (m .counts))) (K .n) p now inbox
             (λ q m y iq f. hear-lost q (m .counts) y iq (f .0) (f .1)) others x h
 
 -- The timeout for L above the period.
@@ -152,7 +152,7 @@ spare K x = entry (x .timeouts) (K .L) - K .period
 
 -- The whole tick of a station: hearing, the timer, the send chance.
 abbrev pub ticked : List ℕ → ℕ → ℕ → ℕ → ℕ → (ℕ → List Message) → Station → Station
-ticked ranks n period p now inbox x = slottedNow (slotted period now) now (expiredNow (expired p) now (heardAll (byCounts ranks) n p now inbox x))
+ticked ranks n period p now inbox x = slottedNow (slotted period now) now (expiredNow (expired p) now (heardAll (byOrder ranks) n p now inbox x))
 
 pub slot-leader : (period now : ℕ) (x : Station) → slottedNow (slotted period now) now x .leader ≡ x .leader
 slot-leader period now x = slots-elim (λ (y : Station). y .leader ≡ x .leader) period now x (λ e. refl) (λ e. refl)
@@ -165,8 +165,8 @@ slot-timeouts period now x = slots-elim (λ (y : Station). y .timeouts ≡ x .ti
 
 module _ (K : Stretch) (p now : ℕ) (low : 1 ≤ now) (ip : In (K .n) p) (Sp : K .steady p ≡ true) (least : keyL K ≤ keyAt K p)
     (inbox : ℕ → List Message) (fair : (q : ℕ) → In (K .n) q → FairTo K p now q (inbox q)) where
-  pub all-calm : (x : Station) → Calm K p now x → Calm K p now (heardAll (byCounts (K .ranks)) (K .n) p now inbox x)
-  all-calm x h = all-keeps (byCounts (K .ranks)) (Calm K p now) (λ q m. (q ≢ p) × Fair K now q (m .counts)) (K .n) p now inbox (λ q m y iq f. hear-calm K p ip Sp least now q (m .counts) y iq (f .0) (f .1)) fair x h
+  pub all-calm : (x : Station) → Calm K p now x → Calm K p now (heardAll (byOrder (K .ranks)) (K .n) p now inbox x)
+  all-calm x h = all-keeps (byOrder (K .ranks)) (Calm K p now) (λ q m. (q ≢ p) × Fair K now q (m .counts)) (K .n) p now inbox (λ q m y iq f. hear-calm K p ip Sp least now q (m .counts) y iq (f .0) (f .1)) fair x h
 
   pub ticked-calm : (x : Station) → Calm K p now x → Calm K p (now + 1) (ticked (K .ranks) (K .n) (K .period) p now inbox x)
   ticked-calm x h = slot-calm K p ip Sp least (now + 1) now _ (expire-calm K p ip Sp least now _ low (all-calm x h))
@@ -179,12 +179,12 @@ module _ (K : Stretch) (p now : ℕ) (low : 1 ≤ now) (ip : In (K .n) p) (Sp : 
         → (ticked (K .ranks) (K .n) (K .period) p now inbox x .leader ≡ K .L) × (ticked (K .ranks) (K .n) (K .period) p now inbox x .timer ≡ now + entry (x .timeouts) (K .L))
         × (entry (ticked (K .ranks) (K .n) (K .period) p now inbox x .timeouts) (K .L) ≡ entry (x .timeouts) (K .L))
     tick-hit g =
-        let r : Heard K p now (x .timeouts) (now + entry (x .timeouts) (K .L)) (heardAll (byCounts (K .ranks)) (K .n) p now inbox x) =
+        let r : Heard K p now (x .timeouts) (now + entry (x .timeouts) (K .L)) (heardAll (byOrder (K .ranks)) (K .n) p now inbox x) =
         all-hit K p now ip Sp least pL late (x .timeouts) inbox fair g x (record { calm = h; same = refl }) in
         rw (slot-leader, slot-timer, slot-timeouts)
         (expiredNow-elim
         (λ (y : Station). (y .leader ≡ K .L) × (y .timer ≡ now + entry (x .timeouts) (K .L)) × (entry (y .timeouts) (K .L) ≡ entry (x .timeouts) (K .L)))
-        (expired p) now (heardAll (byCounts (K .ranks)) (K .n) p now inbox x)
+        (expired p) now (heardAll (byOrder (K .ranks)) (K .n) p now inbox x)
         (λ e. absurd (omega (arith, r .trusting .timer-at, slow-L)))
         (λ e. (r .trusting .leader-L, r .trusting .timer-at, ap (λ l. entry l (K .L)) (r .waiting .same))))
 
@@ -204,14 +204,14 @@ module _ (K : Stretch) (p now : ℕ) (low : 1 ≤ now) (ip : In (K .n) p) (Sp : 
       move-quiet none le = rw (slot-leader, slot-timer, slot-timeouts) (go (ℕ-discrete (x .leader) (K .L)))
         where
           z : Station
-          z = heardAll (byCounts (K .ranks)) (K .n) p now inbox x
+          z = heardAll (byOrder (K .ranks)) (K .n) p now inbox x
 
           place : Calm K p now z → z .timer ≡ now → z .leader - 1 < length (z .timeouts)
-          place c f = due-place (K .ranks) (K .ranked) (K .n) (K .period) (K .small) (K .steady) (K .C) p ip now z low (c .sane) f
+          place c f = due-place (K .ranks) (K .n) (K .period) (K .small) (K .steady) (K .C) p ip now z low (c .sane) f
 
           go : Dec (x .leader ≡ K .L) → MoveTo (expiredNow (expired p) now z)
           go (yes e) =
-              let r : Heard K p now (x .timeouts) (x .timer) (heardAll (byCounts (K .ranks)) (K .n) p now inbox x) =
+              let r : Heard K p now (x .timeouts) (x .timer) (heardAll (byOrder (K .ranks)) (K .n) p now inbox x) =
               all-heard K p now ip Sp least pL late (x .timeouts) inbox fair none (x .timer) x (record { waiting = record { calm = h; same = refl }; trusting = record { leader-L = e; timer-at = refl } }) in
               expiredNow-elim MoveTo (expired p) now z
               (λ f.
@@ -223,7 +223,7 @@ module _ (K : Stretch) (p now : ℕ) (low : 1 ≤ now) (ip : In (K .n) p) (Sp : 
               rw (eq-eqb _ _ e, ne-eqb p (K .L) pL) (ends (sym (r .trusting .timer-at) ∙ f) (omega (arith, slow-L)) le)))
               (λ f. rw (eq-eqb _ _ e, eq-eqb _ _ (r .trusting .leader-L)) (runs (r .trusting .timer-at) (ap (λ l. entry l (K .L) - K .period) (r .waiting .same)) le))
           go (no ne) =
-              let r : Lost K p now (x .timeouts) (heardAll (byCounts (K .ranks)) (K .n) p now inbox x) =
+              let r : Lost K p now (x .timeouts) (heardAll (byOrder (K .ranks)) (K .n) p now inbox x) =
               all-lost K p now ip Sp least pL late (x .timeouts) inbox fair none x (record { waiting = record { calm = h; same = refl }; not-L = ne }) in
               expiredNow-elim MoveTo (expired p) now z
               (λ f.

@@ -20,7 +20,7 @@ use Rattle.election.specs.System.{station, delay, underway}
 use Rattle.election.specs.Tick.{next, slottedNow, settled, sending, later, sent, underwayAfter, tick}
 use Rattle.election.specs.declared.Message.{Message}
 use Rattle.election.specs.declared.System.{System}
-use Rattle.settling.proofs.B-Calm.{Stretch, keyAt, keyL, rank-low, Calm, expire-calm, calm-self}
+use Rattle.settling.proofs.B-Calm.{Stretch, keyAt, keyL, rank-in, Calm, expire-calm, calm-self}
 use Rattle.settling.proofs.A1-Sane.{Known, Sane}
 use Rattle.settling.proofs.D-Deadline.{soonest, soonest-le, soonest-mono, soonest-append, deadline}
 use Rattle.settling.proofs.E2-Follower.{Due, due?, FairTo, spare, ticked, all-calm, ticked-calm, move-hit, move-quiet}
@@ -96,8 +96,8 @@ module _ (K : Stretch) (s : System) (h : Inv K s) where
   after-L q iq u v own ne le = go (K .steady q) refl
     where
       go : (b : Bool) → K .steady q ≡ b → ⊥
-      go true e = omega (arith, h .const q iq e, h .least q iq e, iq .high, K .L-in .high, K .small, rank-low K q iq, rank-low K (K .L) (K .L-in))
-      go false e = omega (arith, h .surplus q iq u e, iq .high, K .L-in .high, K .small, rank-low K q iq, rank-low K (K .L) (K .L-in))
+      go true e = omega (arith, h .const q iq e, h .least q iq e, iq .high, K .L-in .high, K .small, rank-in K q iq, rank-in K (K .L) (K .L-in))
+      go false e = omega (arith, h .surplus q iq u e, iq .high, K .L-in .high, K .small, rank-in K q iq, rank-in K (K .L) (K .L-in))
 
   sent-mail : (q p : ℕ) → In (K .n) q → All (Coming K (next s) q) (sent s q p)
   sent-mail q p iq =

@@ -16,7 +16,7 @@ use Rattle.fit.proofs.Tests.{ranked-of, fit-of}
 use Rattle.settling.specs.Settling.{Arriving, longestWait, longestTimeout}
 use Rattle.election.specs.System.{station, underway}
 use Rattle.election.specs.declared.System.{System}
-use Rattle.settling.proofs.B-Calm.{Stretch, keyAt, keyL, rank-low, Calm}
+use Rattle.settling.proofs.B-Calm.{Stretch, keyAt, keyL, rank-in, Calm}
 use Rattle.settling.proofs.A1-Sane.{Sane}
 use Rattle.settling.proofs.E3-Invariant.{Inv}
 use Rattle.settling.proofs.D-Deadline.{soonest-le}
@@ -88,7 +88,7 @@ module _ (s : System) (h : Reached s) (d L : ℕ) (first : FirstUp s L) where
       go (yes e) = rw e (omega arith)
       go (no ne) =
           let less : keyL from-here < keyAt from-here p =
-          ltb-true _ _ (sym (before-key (counts s L) (entry (s .ranks) L) L (counts s p) (entry (s .ranks) p) p (rank-low from-here L (first .inside)) (small L (first .inside)) (rank-low from-here p ip) (small p ip)) ∙ first .least p ip u ne) in
+          ltb-true _ _ (sym (before-key (counts s L) (entry (s .ranks) L) L (counts s p) (entry (s .ranks) p) p (rank-in from-here L (first .inside)) (small L (first .inside)) (rank-in from-here p ip) (small p ip)) ∙ first .least p ip u ne) in
           omega arith
 
   begin-calm : (p : ℕ) → In (s .n) p → station s p .up ≡ true → Calm from-here p (s .tick + 1) (station s p)

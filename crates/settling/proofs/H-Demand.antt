@@ -2,7 +2,7 @@
 use mathlib.Core.Path.{_≡_, refl, sym, ap, subst, _∙_}
 use mathlib.Core.Bool.{true, false, cond}
 use mathlib.Core.List.{List, [], _∷_}
-use Prim.Native.Nat.{ℕ, zero, suc, _+_, _-_, _*_, _/_, _≤_, _<_}
+use Prim.Native.Nat.{ℕ, zero, suc, _+_, _-_, _*_, _/_, _≤_}
 use native.Mathlib.Omega.{arith}
 use lib.Dec.{eqb}
 use lib.ListN.{length, getD, take}
@@ -16,8 +16,7 @@ use Rattle.election.specs.Commands.{Command, SetUp, Start, Crash, Link, Run, Lo
 use Rattle.election.specs.Listing.{trusts, allTrust}
 use Rattle.election.specs.Schedule.{schedule}
 use Rattle.settling.specs.Settling.{moments, ticksOf, befores, divided, dividedTicks, Quiet, upHeads, bound, answered, given, Settling}
-use Rattle.election.specs.History.{accepted, after, commands, reached}
-use Rattle.election.specs.Sound.{sound}
+use Rattle.election.specs.History.{accepted, after, commands}
 use Rattle.election.specs.System.{noStation, station, fresh}
 use Rattle.election.specs.Tick.{sending, tick}
 use Rattle.election.specs.declared.System.{System}
@@ -25,7 +24,7 @@ use Rattle.election.proofs.Accepting.{Accepts, accepts, ruling-tests}
 use Rattle.settling.proofs.B-Calm.{Stretch}
 use Rattle.election.proofs.Followed.{rules-system, Followed, accepted-schedule}
 use Rattle.settling.proofs.E2-Follower.{slot-leader}
-use Rattle.election.proofs.Counts.{counts, FromFresh, from-schedule}
+use Rattle.election.proofs.Counts.{FromFresh, from-schedule}
 use Rattle.election.proofs.Places.{In, tick-station, tick-n}
 use Rattle.election.proofs.Ranks.{rank-is-latest}
 use Rattle.settling.proofs.F-Potential.{tri, tri-double}

@@ -19,7 +19,7 @@ use Rattle.election.specs.Schedule.{End, schedule}
 use Rattle.election.proofs.Opened.{rules}
 use Rattle.election.proofs.Ruled.{ruled, byRules}
 use Rattle.election.proofs.Tables.{schedule-ruled}
-use Rattle.settling.specs.Instance.{bytes, stretch, d, L, begin, Meets, Instance, slowStretch, SlowLinks, beforeCrash, withCrash, CrashOfL, withLosses, LostToUp, withCut, CutToUp, withDelay, SentLate, beforeLate, afterLate, LateUnderWay, beforeLowest, afterLowest, LowestNumber, ranked, afterRanked, Preferred, RankLeftOut}
+use Rattle.settling.specs.Instance.{bytes, stretch, d, L, begin, Meets, Instance, slowStretch, SlowLinks, beforeCrash, withCrash, CrashOfL, withLosses, LostToUp, withCut, CutToUp, withDelay, SentLate, beforeLate, afterLate, LateUnderWay, beforeLowest, afterLowest, LowestNumber, beforeRanked, afterRanked, Preferred, RankLeftOut}
 use Rattle.election.specs.declared.Message.{Message}
 use Rattle.election.specs.declared.System.{System}
 use Rattle.settling.proofs.Tested.{every, implies, pairs, sentTest, arrivingTest, eachTest, permittedTest, losesNoneTest, firstTest, Found, found, Says, says, quiet-of}
@@ -183,30 +183,34 @@ lowest-number =
     }
 
 -- L by its rank, and the other head in its place
-preferred-found : found (byRules ranked .end) (commands ranked) afterRanked 1 2 ≡ holding 80 17 53
+preferred-found : found (byRules beforeRanked .end) (commands beforeRanked) afterRanked 1 2 ≡ holding 80 17 53
 unfolding computing
 preferred-found = refl
 
 pub preferred : Preferred
-preferred = meets-of (says ranked afterRanked 1 2 _ refl preferred-found)
+preferred = meets-of (says beforeRanked afterRanked 1 2 _ refl preferred-found)
 
-left-out-found : found (byRules ranked .end) (commands ranked) afterRanked 1 1 ≡ finding false true true true true true 80 80 53
+left-out-found : found (byRules beforeRanked .end) (commands beforeRanked) afterRanked 1 1 ≡ finding false true true true true true 80 80 53
 unfolding computing
 left-out-found = refl
 
-left-out-ruled : station (byRules ranked .end .system) 1 .up ≡ true
+left-out-ruled : station (byRules beforeRanked .end .system) 1 .up ≡ true
 unfolding computing
 left-out-ruled = refl
 
-as-many-starts : starts 1 (commands ranked) ≡ starts 2 (commands ranked)
+as-many-starts : starts 1 (commands beforeRanked) ≡ starts 2 (commands beforeRanked)
 unfolding computing
 as-many-starts = refl
 
+lower-rank : ltb (rankOf 0 2 (commands beforeRanked)) (rankOf 0 1 (commands beforeRanked)) ≡ true
+unfolding computing
+lower-rank = refl
+
 pub rank-left-out : RankLeftOut
 rank-left-out =
-    let s = says ranked afterRanked 1 1 _ refl left-out-found in
+    let s = says beforeRanked afterRanked 1 1 _ refl left-out-found in
     record {
       accepted = s .accepted;
-      conditions = (ap (λ (e : End). station (e .system) 1 .up) (schedule-ruled ranked refl) ∙ left-out-ruled, as-many-starts, quiet-of s refl refl refl refl refl);
+      conditions = (ap (λ (e : End). station (e .system) 1 .up) (schedule-ruled beforeRanked refl) ∙ left-out-ruled, as-many-starts, ltb-true _ _ lower-rank, quiet-of s refl refl refl refl refl);
       passed = s .passed (omega arith);
     }

@@ -1,5 +1,4 @@
--- Whenever a head is up there is a leader, and only one: candidates by starts are ordered as those by known counts are. With equal ranks it is
--- document 01's.
+-- Whenever a head is up there is a leader, and only one, by the candidate order with starts for known counts. With equal ranks it is document 01's.
 use mathlib.Core.Path.{_≡_, refl, sym, ap, _∙_}
 use mathlib.Core.Logic.{_⊎_, _≢_, _↔_}
 use mathlib.Core.Logic._⊎_.{inl, inr}
@@ -8,13 +7,12 @@ use mathlib.Core.Bool.{Bool, true, false, true≢false}
 use Prim.Native.Nat.{ℕ, zero, suc, _<_, _≤_}
 use native.Mathlib.Decide.{ℕ-discrete}
 use native.Mathlib.Omega.{arith}
-use Rattle.station.specs.Order.{before}
 use Rattle.station.proofs.Ordered.{ranks-equal, strict-holds, total-holds, transitive-holds}
 use Rattle.election.specs.Commands.{Command}
 use Rattle.election.specs.History.{commands, starts, isUp, rankOf}
 use Rattle.election.specs.Schedule.{schedule}
-use Rattle.settling.specs.Leader.{LeaderExists, OneLeader, EqualRanks, FirstIsFewest, SettlingByStarts}
-use Rattle.settling.specs.Settling.{First}
+use Rattle.settling.specs.Leader.{LeaderExists, OneLeader, FirstIsFewest, SettlingByStarts}
+use Rattle.settling.specs.Settling.{ahead, First}
 use Rattle.settling.proofs.H-Demand.{settling}
 
 module _ (cs : List Command) where
@@ -24,9 +22,8 @@ module _ (cs : List Command) where
   abbrev NoneUp : ℕ → Type 0
   NoneUp n = (p : ℕ) → 1 ≤ p → p ≤ n → Up p → ⊥
 
-  -- L is before p by their starts, ranks and numbers
   abbrev Ahead : ℕ → ℕ → Type 0
-  Ahead L p = before (starts L cs) (rankOf 0 L cs) L (starts p cs) (rankOf 0 p cs) p ≡ true
+  Ahead L p = ahead cs L p ≡ true
 
   -- one head more: the leader so far stays, or the new head becomes it
   module _ (n : ℕ) where
@@ -82,15 +79,15 @@ one-leader n cs L K f g = go (ℕ-discrete L K)
         absurd (true≢false (sym b ∙ strict-holds (starts L cs) (rankOf 0 L cs) L (starts K cs) (rankOf 0 K cs) K a))
 
 -- equal ranks do not matter
-before-equal : (cs : List Command) (L p : ℕ) → rankOf 0 L cs ≡ rankOf 0 p cs → (before (starts L cs) (rankOf 0 L cs) L (starts p cs) (rankOf 0 p cs) p ≡ true) ↔ ((starts L cs < starts p cs) ⊎ ((starts L cs ≡ starts p cs) × (L < p)))
-before-equal cs L p e = rw e (ranks-equal (starts L cs) L (starts p cs) p (rankOf 0 p cs))
+ahead-equal : (cs : List Command) (L p : ℕ) → rankOf 0 L cs ≡ rankOf 0 p cs → (ahead cs L p ≡ true) ↔ ((starts L cs < starts p cs) ⊎ ((starts L cs ≡ starts p cs) × (L < p)))
+ahead-equal cs L p e = rw e (ranks-equal (starts L cs) (starts p cs) (rankOf 0 p cs) L p)
 
 pub first-is-fewest : FirstIsFewest
 first-is-fewest n cs L same = (
-  λ f. record { low = f .low; high = f .high; is-up = f .is-up; fewest = λ p low high u ne. before-equal cs L p (same L p (f .low) (f .high) low high) .0 (f .least p low high u ne) },
-  λ f. record { low = f .low; high = f .high; is-up = f .is-up; least = λ p low high u ne. before-equal cs L p (same L p (f .low) (f .high) low high) .1 (f .fewest p low high u ne) },
+  λ f. record { low = f .low; high = f .high; is-up = f .is-up; fewest = λ p low high u ne. ahead-equal cs L p (same L p (f .low) (f .high) (f .is-up) low high u) .0 (f .least p low high u ne) },
+  λ f. record { low = f .low; high = f .high; is-up = f .is-up; least = λ p low high u ne. ahead-equal cs L p (same L p (f .low) (f .high) (f .is-up) low high u) .1 (f .fewest p low high u ne) },
 )
 
 pub settling-by-starts : SettlingByStarts
-settling-by-starts bytes stretch d L ok same f quiet =
-    settling bytes stretch d L ok (first-is-fewest (schedule bytes .system .n) (commands bytes) L same .1 f) quiet .0
+settling-by-starts bytes stretch d L ok (same, f) quiet =
+    settling bytes stretch d L ok (first-is-fewest (schedule bytes .system .n) (commands bytes) L same .1 f) quiet

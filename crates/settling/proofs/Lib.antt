@@ -1,7 +1,7 @@
 -- The proof of demand 3, file by file in its order; then its instances, that there is a leader, and the code.
 --   A  what holds of every system that a schedule reaches: nobody knows more starts of a head than it has had, each head's leader is
 --      before it or itself, its timeouts are above the period, its next chance is at most a period away once its wait is over
---   B  one steady station at a time. A leader is late if it is L or after L by the counts known; a late leader gives way to L
+--   B  one steady station at a time. A leader is late if it is L or after L by the counts known and the ranks; a late leader gives way to L
 --   C  after M + 2 d ticks every leader is late, and L trusts itself
 --   D  from then on a message of L's reaches each follower by a deadline, which comes nearer with each tick that brings none
 --   E  so each follower is in one of three cases, and a tick takes it from case to case

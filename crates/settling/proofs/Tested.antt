@@ -12,11 +12,10 @@ use Rattle.lists.specs.Every.{All}
 use Rattle.lists.specs.Test.{allTo}
 use Rattle.lists.proofs.Bools.{both, four}
 use Rattle.lists.proofs.Test.{all-at}
-use Rattle.station.specs.Order.{before}
 use Rattle.election.specs.Commands.{Command, SetUp, Start, Crash, Link, Run, Lose, Report, Rank, decode}
 use Rattle.election.specs.Schedule.{End, mostBytes, schedule}
-use Rattle.settling.specs.Settling.{First, befores, dividedTicks, Permitted, LosesNone, Each, Sent, Only, NoneLost, NoneCut, NoneSentLate, Arriving, Quiet, bound}
-use Rattle.election.specs.History.{accepted, after, commands, starts, isUp, rankOf}
+use Rattle.settling.specs.Settling.{ahead, First, befores, dividedTicks, Permitted, LosesNone, Each, Sent, Only, NoneLost, NoneCut, NoneSentLate, Arriving, Quiet, bound}
+use Rattle.election.specs.History.{accepted, after, commands, isUp}
 use Rattle.election.specs.System.{station, delay, underway}
 use Rattle.election.specs.Tick.{sending}
 use Rattle.election.specs.declared.System.{System}
@@ -137,7 +136,7 @@ losesNone-of (Rank p r) s e = tt
 
 -- L is up, and before every other up head by starts, rank and number
 unfoldable pub firstTest : ℕ → List Command → ℕ → Bool
-firstTest n cs L = leb 1 L && leb L n && isUp false L cs && pairs n (λ p q. implies (eqb q L) (implies (isUp false p cs) (before (starts L cs) (rankOf 0 L cs) L (starts p cs) (rankOf 0 p cs) p)))
+firstTest n cs L = leb 1 L && leb L n && isUp false L cs && pairs n (λ p q. implies (eqb q L) (implies (isUp false p cs) (ahead cs L p)))
 
 first-of : (n : ℕ) (cs : List Command) (L : ℕ) → firstTest n cs L ≡ true → First n cs L
 unfolding firstTest

@@ -9,7 +9,7 @@ use Rattle.election.specs.Commands.{ruling}
 use Rattle.election.specs.Rows.{setUp, start, crash, link, run, lose, report, rank, started, at20, startedSlow}
 use Rattle.election.specs.Schedule.{schedule}
 use Rattle.settling.specs.Settling.{First, befores, dividedTicks, Only, NoneLost, NoneCut, NoneSentLate, Arriving, Quiet, upHeads, bound, given}
-use Rattle.election.specs.History.{commands, starts}
+use Rattle.election.specs.History.{commands, starts, rankOf}
 use Rattle.election.specs.System.{station, sentBy, underway}
 use Rattle.election.specs.declared.Message.{Message}
 use Rattle.election.specs.declared.System.{System}
@@ -133,18 +133,20 @@ LowestNumber =
     Passes beforeLowest afterLowest 1 1
     (λ s. (station s 1 .up ≡ true) × (starts 2 (commands beforeLowest) < starts 1 (commands beforeLowest)) × Quiet 1 afterLowest s)
 
--- Two stations that start at once, 1 with rank 1: L is 2. To tick 17 station 1 trusts itself, and from 18 on both trust 2.
-abbrev pub ranked : List ℕ
-ranked = setUp 2 16 ++ rank 1 1 ++ start 1 ++ start 2
+-- Two stations that start at once, 1 with rank 1: L is 2. Up to tick 17 station 1 trusts itself, and from 18 on both trust 2.
+abbrev pub beforeRanked : List ℕ
+beforeRanked = setUp 2 16 ++ rank 1 1 ++ start 1 ++ start 2
 
 abbrev pub afterRanked : List (List ℕ)
 afterRanked = run 80 ∷ []
 
 abbrev pub Preferred : Type 0
-Preferred = Meets ranked afterRanked 1 2 80 17 53
+Preferred = Meets beforeRanked afterRanked 1 2 80 17 53
 
--- with 1 for L, of as many starts and the lower number, and all else: all 80 ticks are divided where the bound is 53
+-- with 1 for L, which has as many starts, the lower number and the higher rank, and all else holds: all 80 ticks are divided where the bound is 53
 abbrev pub RankLeftOut : Type 0
 RankLeftOut =
-    Passes ranked afterRanked 1 1
-    (λ s. (station s 1 .up ≡ true) × (starts 1 (commands ranked) ≡ starts 2 (commands ranked)) × Quiet 1 afterRanked s)
+    Passes beforeRanked afterRanked 1 1
+    (λ s.
+    (station s 1 .up ≡ true) × (starts 1 (commands beforeRanked) ≡ starts 2 (commands beforeRanked))
+    × (rankOf 0 2 (commands beforeRanked) < rankOf 0 1 (commands beforeRanked)) × Quiet 1 afterRanked s)

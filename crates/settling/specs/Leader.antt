@@ -5,9 +5,8 @@ use mathlib.Core.List.{List}
 use mathlib.Core.Bool.{true, false}
 use Prim.Native.Nat.{ℕ, _<_, _≤_}
 use Rattle.election.specs.Commands.{Command}
-use Rattle.election.specs.History.{commands, starts, isUp, rankOf}
-use Rattle.election.specs.Schedule.{schedule}
-use Rattle.settling.specs.Settling.{First, Quiet, Settles}
+use Rattle.election.specs.History.{starts, isUp, rankOf}
+use Rattle.settling.specs.Settling.{First, SettlingOf}
 
 -- whenever a head is up there is one
 abbrev pub LeaderExists : Type 0
@@ -24,9 +23,10 @@ pub record Fewest (n : ℕ) (cs : List Command) (L : ℕ) : Type 0 where
   pub is-up : isUp false L cs ≡ true
   pub fewest : (p : ℕ) → 1 ≤ p → p ≤ n → isUp false p cs ≡ true → p ≢ L → (starts L cs < starts p cs) ⊎ ((starts L cs ≡ starts p cs) × (L < p))
 
--- all stations have the same rank
+-- all up heads have the same rank
 abbrev pub EqualRanks : ℕ → List Command → Type 0
-EqualRanks n cs = (p q : ℕ) → 1 ≤ p → p ≤ n → 1 ≤ q → q ≤ n → rankOf 0 p cs ≡ rankOf 0 q cs
+EqualRanks n cs =
+    (p q : ℕ) → 1 ≤ p → p ≤ n → isUp false p cs ≡ true → 1 ≤ q → q ≤ n → isUp false q cs ≡ true → rankOf 0 p cs ≡ rankOf 0 q cs
 
 -- then the first of the up heads is document 01's leader
 abbrev pub FirstIsFewest : Type 0
@@ -34,10 +34,4 @@ FirstIsFewest = (n : ℕ) (cs : List Command) (L : ℕ) → EqualRanks n cs → 
 
 -- and demand 3 holds as document 01 says it
 abbrev pub SettlingByStarts : Type 0
-SettlingByStarts =
-    (bytes : List ℕ) (stretch : List (List ℕ)) (d L : ℕ)
-    → schedule bytes .refusal ≡ 0
-    → EqualRanks (schedule bytes .system .n) (commands bytes)
-    → Fewest (schedule bytes .system .n) (commands bytes) L
-    → Quiet d stretch (schedule bytes .system)
-    → Settles d L stretch (schedule bytes .system)
+SettlingByStarts = SettlingOf (λ n cs L. EqualRanks n cs × Fewest n cs L)

@@ -19,12 +19,16 @@ use Rattle.election.specs.Tick.{sending, tick}
 use Rattle.election.specs.declared.Message.{Message}
 use Rattle.election.specs.declared.System.{System}
 
--- L is the first of the up heads by (starts, rank, number), counted from the accepted commands
+-- L is before p by (starts, rank, number), counted from the accepted commands
+abbrev pub ahead : List Command → ℕ → ℕ → Bool
+ahead cs L p = before (starts L cs) (rankOf 0 L cs) L (starts p cs) (rankOf 0 p cs) p
+
+-- L is the first of the up heads
 pub record First (n : ℕ) (cs : List Command) (L : ℕ) : Type 0 where
   pub low : 1 ≤ L
   pub high : L ≤ n
   pub is-up : isUp false L cs ≡ true
-  pub least : (p : ℕ) → 1 ≤ p → p ≤ n → isUp false p cs ≡ true → p ≢ L → before (starts L cs) (rankOf 0 L cs) L (starts p cs) (rankOf 0 p cs) p ≡ true
+  pub least : (p : ℕ) → 1 ≤ p → p ≤ n → isUp false p cs ≡ true → p ≢ L → ahead cs L p ≡ true
 
 -- the systems before each of t ticks
 unfoldable pub moments : ℕ → System → List System
@@ -56,7 +60,8 @@ unfoldable pub dividedTicks : ℕ → List System → ℕ
 dividedTicks L [] = 0
 dividedTicks L (s ∷ ss) = cond (divided L (tick s)) 1 0 + dividedTicks L ss
 
--- an entry of the stretch is refused, or a run, a link setting, a loss or a report (a rank is refused whenever a head is up)
+-- an entry of the stretch is refused, or a run, a link setting, a loss or a report. A rank is refused while a head is up (RankRefusedWhileUp
+-- of the election's claims), so that none can be accepted in a stretch.
 abbrev pub Permitted : Command → Type 0
 Permitted (SetUp n period) = ⊥
 Permitted (Start p) = ⊥
@@ -153,11 +158,15 @@ pub record Settles (d L : ℕ) (es : List (List ℕ)) (s : System) : Type 0 wher
   -- after every prefix of the stretch the system that Command answers is the one that the rules give
   pub answers : (k : ℕ) → answered (take k es) s ≡ given (take k es) s
 
--- Demand 3: from the last system of an accepted schedule, which is the one that the rules give for its commands
-abbrev pub Settling : Type 0
-Settling =
+-- Demand 3 of a leader: from the last system of an accepted schedule, which is the one that the rules give for its commands
+abbrev pub SettlingOf : (ℕ → List Command → ℕ → Type 0) → Type 0
+SettlingOf Leads =
     (bytes : List ℕ) (stretch : List (List ℕ)) (d L : ℕ)
     → schedule bytes .refusal ≡ 0
-    → First (schedule bytes .system .n) (commands bytes) L
+    → Leads (schedule bytes .system .n) (commands bytes) L
     → Quiet d stretch (schedule bytes .system)
     → Settles d L stretch (schedule bytes .system) × (schedule bytes .system ≡ reached (commands bytes) fresh)
+
+-- Demand 3
+abbrev pub Settling : Type 0
+Settling = SettlingOf First

@@ -45,7 +45,7 @@ pub lexicographic-holds : Lexicographic
 lexicographic-holds c r p d t q = (lex-of c r p d t q, of-lex c r p d t q)
 
 pub ranks-equal : RanksEqual
-ranks-equal c p d q r = (λ e. to (lex-of c r p d r q e), λ h. of-lex c r p d r q (from h))
+ranks-equal c d r p q = (λ e. to (lex-of c r p d r q e), λ h. of-lex c r p d r q (from h))
   where
     to : Lex c r p d r q → (c < d) ⊎ ((c ≡ d) × (p < q))
     to (inl a) = inl a

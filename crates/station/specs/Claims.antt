@@ -12,7 +12,7 @@ Lexicographic =
 
 -- with equal ranks by (known start count, number)
 abbrev pub RanksEqual : Type 0
-RanksEqual = (c p d q r : ℕ) → (before c r p d r q ≡ true) ↔ ((c < d) ⊎ ((c ≡ d) × (p < q)))
+RanksEqual = (c d r p q : ℕ) → (before c r p d r q ≡ true) ↔ ((c < d) ⊎ ((c ≡ d) × (p < q)))
 
 -- strict: never both ways, so never a candidate before itself
 abbrev pub Strict : Type 0

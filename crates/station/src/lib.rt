@@ -4,6 +4,9 @@ pub mod rules;
 // The last tick.
 pub const LAST_TICK: u32 = 1000000;
 
+// The largest rank.
+pub const MOST_RANK: u8 = 7;
+
 // One station. A crash keeps the incarnation (the start count) and the stable leader (the kept
 // leader); the rest is lost, and zero while the station is down. Stations are 1 to n; 0 is none.
 pub struct Station {

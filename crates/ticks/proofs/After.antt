@@ -49,7 +49,7 @@ linkAfter n now m k = cond (isLink n (from k) (to k)) (newLink now m (k / 8) k) 
 -- the system in which the first p stations, c sent counts and k links are after the tick
 unfoldable pub sentTo : ℕ → ℕ → System → ℕ → ℕ → ℕ → System
 sentTo n now m p c k =
-    renewed (m .tick) (firsts p (stationAfter now m) (m .stations)) (firsts c (sentAfter now m) (m .sent)) (m .delays) (firsts k (linkAfter n now m) (m .links)) m
+    renewed (m .tick) (firsts p (stationAfter now m) (m .stations)) (firsts c (sentAfter now m) (m .sent)) (m .delays) (firsts k (linkAfter n now m) (m .links)) (m .ranks) m
 
 -- what the sending is given
 pub record Mid (n now : ℕ) (m : System) : Type 0 where
@@ -79,7 +79,7 @@ unfolding sentTo
 part-none n now m until f calm =
     record {
       mid = f;
-      same = λ i. renewed (m .tick) (firsts-zero (stationAfter now m) (m .stations) i) (firsts-zero (sentAfter now m) (m .sent) i) (m .delays) (firsts-zero (linkAfter n now m) (m .links) i) m;
+      same = λ i. renewed (m .tick) (firsts-zero (stationAfter now m) (m .stations) i) (firsts-zero (sentAfter now m) (m .sent) i) (m .delays) (firsts-zero (linkAfter n now m) (m .links) i) (m .ranks) m;
       calm-stations = λ t j a b h. absurd (omega arith);
       calm-links = λ t j a b h. absurd (omega arith);
       calm-kept = calm;

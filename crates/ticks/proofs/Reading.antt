@@ -10,9 +10,10 @@ use Rattle.station.specs.declared.Station.{Station}
 use Rattle.layout.specs.Layout.{systemOf}
 use Rattle.layout.specs.declared.Layout.{Layout}
 use Rattle.layout.proofs.Stores.{Wide, part, withMessages, withStations}
-use Rattle.election.specs.Heads.{byCounts, hearing}
+use Rattle.election.specs.Heads.{hearing}
 use Rattle.election.specs.System.{places, noStation, noMessage}
 use Rattle.election.specs.declared.Message.{Message}
+use Rattle.election.proofs.Heads.{hearing-same}
 use Rattle.ticks.proofs.InPlace.{Packing, packing-none, packing-read, packing-keeps, packing-drops, Heard, heard-first, heard-waits, heard-due, heard-down, Beside, beside-none, beside-stores}
 use Rattle.ticks.proofs.Quiet.{Before}
 
@@ -51,7 +52,7 @@ module _ (q p k now : ℕ) (s₀ s : Layout) (until to i : ℕ) (a : Reading q p
     reading-hears v long up e g =
         record {
           packing = packing-drops now k s₀ s until to i (a .packing) hk hi m u to′ (set (s .stations) p v) y refl d g z t;
-          heard = heard-due (systemOf s₀) (p + 1) (q + 1) now _ _ _ _ i m (a .heard) within same d up (ap (λ (x : Layout). getD (x .stations) p noStation) g ∙ getD-set-same (s .stations) p v noStation long ∙ e ∙ ap (λ ranks. byCounts ranks (p + 1) (q + 1) m now (getD (s .stations) p noStation)) (ap (λ (x : Layout). x .ranks) (a .packing .same)));
+          heard = heard-due (systemOf s₀) (p + 1) (q + 1) now _ _ _ _ i m (a .heard) within same d up (ap (λ (x : Layout). getD (x .stations) p noStation) g ∙ getD-set-same (s .stations) p v noStation long ∙ e ∙ ap (λ hear. hear (p + 1) (q + 1) m now (getD (s .stations) p noStation)) (hearing-same (systemOf s) (systemOf s₀) (ap (λ (x : Layout). x .ranks) (a .packing .same))));
           beside = subst (λ (x : Layout). Beside p (s₀ .stations) (x .stations)) (sym g) (beside-stores p _ _ v (a .beside));
         }
 

@@ -137,7 +137,7 @@ module _ (s : System) (ticking : Ticking s) (held : Held s) (ls : List Link) (lo
   unfolding atTick tick sentTo settledTo done mid now
   whole-tick r e until =
       ap (atTick until) e
-      ∙ (λ i. renewed until (stations-done i) (sent-done i) (s .delays) (links-done i) s)
+      ∙ (λ i. renewed until (stations-done i) (sent-done i) (s .delays) (links-done i) (s .ranks) s)
 
   -- and nothing is due up to where the parts are calm
   module _ (r : System) (until : ℕ) (a : Part (s .n) (s .tick + 1) (withLinks ls (settledTo s (s .n))) until r (s .n) (s .n) (8 * s .n)) (t : ℕ) (h : s .tick + 1 < t) (i : t ≤ until) where

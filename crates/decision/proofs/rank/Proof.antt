@@ -23,14 +23,14 @@ returns-3 c s e f =
     let a = c .before .before .before .before .args in
     let ready = not-false (a .ready) (c .before .before .before .if1 .left) in
     let inside = holds (c .before .before .is-station .ensures) (c .before .if2 .left) in
-    last-test (noneStarted (s .stations)) (Rank (a .station) (a .rank)) ∙ rw (e, f, ready, inside, le-leb (a .rank) mostRank (omega arith))
+    last-test (noneStarted (s .stations)) (Rank (a .p) (a .x)) ∙ rw (e, f, ready, inside, le-leb (a .x) mostRank (omega arith))
 
 returns-4 : tie.Need-returns-4
 returns-4 c s e f =
     let a = c .before .before .before .before .args in
     let ready = not-false (a .ready) (c .before .before .before .if1 .left) in
     let inside = holds (c .before .before .is-station .ensures) (c .before .if2 .left) in
-    rw (e, f, ready, inside, lt-leb (a .rank) mostRank (omega arith))
+    rw (e, f, ready, inside, lt-leb (a .x) mostRank (omega arith))
 
 pub rank-spec : {M : Type 1} → statement M
 rank-spec = tie.close (tie.spec returns (λ c κs. search needs) returns-2 returns-3 returns-4)

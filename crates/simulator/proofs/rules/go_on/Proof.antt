@@ -11,7 +11,7 @@ use Rattle.lists.proofs.Bools.{holds, fails}
 use Rattle.station.specs.declared.Station.{Station}
 use Rattle.election.specs.Commands.{Command, SetUp, Start, Crash, Link, Run, Lose, Report, Rank, decode, operands, noneStarted, ruling, perform}
 use Rattle.election.specs.Idle.{Still}
-use Rattle.election.specs.System.{atTick, withStation, unused, initial, places}
+use Rattle.election.specs.System.{atTick, withStation, initial, places}
 use Rattle.election.proofs.Accepting.{Accepts, accepts}
 use Rattle.election.proofs.Idle.{still-none}
 use Rattle.election.proofs.Soundness.{Sound, sound-of}
