@@ -66,7 +66,7 @@ operands (Lose p q) = 2
 operands Report = 0
 operands (Rank p r) = 2
 
--- no kept start count is above 0, of a station that is down neither
+-- no kept start count is above 0: no station was ever started, be it up or down now
 abbrev pub noneStarted : List Station → Bool
 noneStarted stations = allTo 8 (λ k. eqb (getD stations k noStation .incarnation) 0)
 
