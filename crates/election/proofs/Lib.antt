@@ -31,11 +31,13 @@ pub mod FromOffset
 pub mod Ending
 pub mod FirstOnly
 pub mod GoingOn
--- The verdict of a listing
+-- The verdict of a listing, and the search for it
 pub mod Verdicts
--- The tables, computed by the rules alone
+pub mod Search
+-- The tables, computed; those of schedules by the rules alone
 pub mod Opened
 pub mod Ruled
 pub mod Computed
 pub mod Tables
+pub mod Found
 pub mod Breaches

@@ -22,15 +22,15 @@ use Rattle.election.proofs.Places.{seat-at}
 use Rattle.election.proofs.Soundness.{sound-of}
 
 -- a station by its place
-up-at : (n : ℕ) (stations : List Station) (k : ℕ) → k < n → getD stations k noStation .up ≡ true → Up n stations (k + 1)
+pub up-at : (n : ℕ) (stations : List Station) (k : ℕ) → k < n → getD stations k noStation .up ≡ true → Up n stations (k + 1)
 up-at n stations k h u = (omega arith, omega (arith, h), ap (λ x. x .up) (seat-at stations k) ∙ u)
 
 -- an up station that trusts the leader that is looked at
-abbrev Looked : ℕ → List Station → ℕ → Type 0
+abbrev pub Looked : ℕ → List Station → ℕ → Type 0
 Looked n stations l = (p : ℕ) × Up n stations p × (trusted stations p ≡ l)
 
 -- there is one, where one is up
-a-leader : (n : ℕ) (stations : List Station) → SomeUp n stations → Looked n stations (aLeader n stations)
+pub a-leader : (n : ℕ) (stations : List Station) → SomeUp n stations → Looked n stations (aLeader n stations)
 unfolding aLeader each
 a-leader zero stations x = absurd (omega (arith, x .1 .0, x .1 .1))
 a-leader (suc n) stations x = go (getD stations n noStation .up) refl (x .0) (x .1) (decLt n (x .0)) (a-leader n stations)
@@ -48,7 +48,7 @@ module _ (n : ℕ) (stations : List Station) where
   none-up e p (low, high, u) =
       true≢false (sym u ∙ not-true (stationOf stations p .up) (all-at n (p - 1) (λ k. not (getD stations k noStation .up)) e (omega (arith, low, high))))
 
-  some-up : dark n stations ≡ false → SomeUp n stations
+  pub some-up : dark n stations ≡ false → SomeUp n stations
   unfolding dark
   some-up e = let (k, h, f) = all-fails n (λ k. not (getD stations k noStation .up)) e in (k + 1, up-at n stations k h (not-false (getD stations k noStation .up) f))
 

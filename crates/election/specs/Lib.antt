@@ -5,20 +5,22 @@ pub mod Heads
 pub mod Tick
 pub mod Order
 pub mod Idle
--- Commands of one byte, and what is turned down: a command, soundness, a schedule, the listing and its verdict; going on with a schedule
+-- Commands of one byte, and what is turned down: a command, soundness, a schedule, the listing, its verdict and the search for it; going on with a schedule
 pub mod Sound
 pub mod Commands
 pub mod Schedule
 pub mod Listing
 pub mod Verdicts
+pub mod Search
 pub mod Onward
 -- The accepted commands of a schedule, and the claims
 pub mod History
 pub mod Claims
--- Tables that are computed: the rehearsals, the ranks, the errors ruled out, and soundness breached clause by clause
+-- Tables that are computed: the rehearsals, the ranks, the findings of the search, the errors ruled out, and soundness breached clause by clause
 pub mod Text
 pub mod Rows
 pub mod Rehearsals
 pub mod Ranked
+pub mod Found
 pub mod Errors
 pub mod Breaches

@@ -73,6 +73,12 @@ pub enum Verdict {
     Split,
 }
 
+// What the search for agreement answers: its finding, and the number of the station where the search ended.
+pub struct Searched {
+    pub finding: Verdict,
+    pub ended: u8,
+}
+
 // What a command answers, with the system.
 pub struct Commanded {
     pub answer: Answer,
