@@ -1,5 +1,4 @@
 -- Every listing of at most eight stations, and every last line, has at most 2,700 bytes.
-use mathlib.Core.Path.{refl}
 use mathlib.Core.List.{List, [], _∷_, _++_}
 use mathlib.Core.Bool.{Bool, true, false, cond}
 use Prim.Native.Nat.{ℕ, zero, suc, _+_, _*_, _≤_}
@@ -8,7 +7,7 @@ use lib.Dec.{eqb}
 use lib.ListN.{length, getD, length-append}
 use Rattle.station.specs.declared.Station.{Station}
 use Rattle.election.specs.System.{noStation}
-use Rattle.election.specs.Listing.{decimal, newline, upWord, downWord, noneWord, endWord, refusedWord, atWord, countOf, vector, status, leaderOf, vectorOf, stationLine, stationLines, verdict, verdictLine, endLine}
+use Rattle.election.specs.Listing.{decimal, newline, upWord, downWord, noneWord, endWord, refusedWord, atWord, countOf, vector, status, leaderOf, vectorOf, stationLine, stationLines, verdict, verdictLine, listingOf, endLine}
 use Rattle.lists.specs.Join.{joinTo}
 use Rattle.listing.specs.Pieces.{who, known, ends}
 use Rattle.election.specs.declared.Verdict.{Verdict}
@@ -62,9 +61,10 @@ verdict-room (AgreedDark l) = simp length-append (omega (arith, length-decimal l
 verdict-room Split = omega arith
 
 pub listing-room : ListingRoom
+unfolding listingOf
 listing-room s h =
     let v : Verdict = verdict (s .n) (s .stations) in
-    omega (arith, size-is s v refl, length-decimal (s .tick), lines-room (s .n) (s .stations) (s .sent) h, verdict-room v)
+    omega (arith, size-is (s .n) (s .tick) (s .stations) (s .sent) v, length-decimal (s .tick), lines-room (s .n) (s .stations) (s .sent) h, verdict-room v)
 
 pub end-room : EndRoom
 unfolding endLine

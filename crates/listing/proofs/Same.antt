@@ -1,15 +1,16 @@
 -- The parts that the code writes make up a line and the listing.
-use mathlib.Core.Path.{_≡_, refl, sym, subst}
+use mathlib.Core.Path.{_≡_, sym, subst}
 use mathlib.Core.List.{List, _++_, append-assoc}
 use mathlib.Core.Bool.{true, false}
 use Prim.Native.Nat.{ℕ, _+_, _≤_}
 use native.Mathlib.Omega.{arith}
 use lib.ListN.{length, length-append}
 use Rattle.station.specs.declared.Station.{Station}
-use Rattle.election.specs.declared.System.{System}
+use Rattle.election.specs.declared.Searched.{Searched}
 use Rattle.election.specs.declared.Verdict.{Verdict}
-use Rattle.election.specs.Listing.{decimal, newline, tickWord, incWord, recWord, sentWord, keptWord, noneWord, named, vector, status, leaderOf, vectorOf, stationLine, stationLines, verdict, verdictLine, listing, listingOf}
-use Rattle.listing.specs.Pieces.{who, known, ends}
+use Rattle.election.specs.Listing.{decimal, newline, tickWord, incWord, recWord, sentWord, keptWord, noneWord, named, vector, status, leaderOf, vectorOf, stationLine, stationLines, verdictLine, listingOf}
+use Rattle.election.specs.Search.{searched}
+use Rattle.listing.specs.Pieces.{who, known, ends, listingWith}
 use Rattle.listing.proofs.Parts.{room-first}
 
 -- the fields of a line, in three parts
@@ -25,25 +26,25 @@ line-is n p x sent =
 pub room-line : (n p : ℕ) (x : Station) (sent : ℕ) {m : ℕ} → length (stationLine n p x sent) ≤ m → length (who p x ++ known n x ++ ends sent x) ≤ m
 room-line n p x sent {m} h = subst (λ l. length l ≤ m) (line-is n p x sent) h
 
--- the tick, the lines and the verdict are the listing
-pub listing-is : (n tick : ℕ) (stations : List Station) (sent : List ℕ) (v : Verdict) → v ≡ verdict n stations → tickWord ++ decimal tick ++ newline ++ stationLines n stations sent ++ verdictLine v ≡ listingOf n tick stations sent
+-- a listing with the verdict that is found is the listing
+pub listing-is : (n tick : ℕ) (stations : List Station) (sent : List ℕ) (f : Searched) → f ≡ searched n stations → listingWith n tick stations sent (f .finding) ≡ listingOf n tick stations sent
 unfolding listingOf
-listing-is n tick stations sent v e = rw e
+listing-is n tick stations sent f e = rw e
 
--- so there is room for them where there is room for it
-pub room : (n tick : ℕ) (stations : List Station) (sent : List ℕ) (v : Verdict) {m : ℕ} → v ≡ verdict n stations → length (listingOf n tick stations sent) ≤ m → length (tickWord ++ decimal tick ++ newline ++ stationLines n stations sent ++ verdictLine v) ≤ m
-room n tick stations sent v {m} e h = subst (λ l. length l ≤ m) (sym (listing-is n tick stations sent v e)) h
+-- so there is room for the one where there is room for the other
+pub room : (n tick : ℕ) (stations : List Station) (sent : List ℕ) (f : Searched) {m : ℕ} → f ≡ searched n stations → length (listingOf n tick stations sent) ≤ m → length (listingWith n tick stations sent (f .finding)) ≤ m
+room n tick stations sent f {m} e h = subst (λ l. length l ≤ m) (sym (listing-is n tick stations sent f e)) h
 
-pub room-tick : (n tick : ℕ) (stations : List Station) (sent : List ℕ) {m : ℕ} → length (listingOf n tick stations sent) ≤ m → length (tickWord ++ decimal tick ++ newline) ≤ m
-room-tick n tick stations sent h =
-    let v : Verdict = verdict n stations in
+-- and for its first line
+pub room-tick : (n tick : ℕ) (stations : List Station) (sent : List ℕ) (v : Verdict) {m : ℕ} → length (listingWith n tick stations sent v) ≤ m → length (tickWord ++ decimal tick ++ newline) ≤ m
+room-tick n tick stations sent v h =
     let first : List ℕ = tickWord ++ decimal tick ++ newline in
     let ls : List ℕ = stationLines n stations sent in
-    room-first first ls (room-first (first ++ ls) (verdictLine v) (room n tick stations sent v refl h))
+    room-first first ls (room-first (first ++ ls) (verdictLine v) h)
 
--- and its length is the sum of theirs
-pub size-is : (s : System) (v : Verdict) → v ≡ verdict (s .n) (s .stations) → length (listing s) ≡ length (decimal (s .tick)) + length (stationLines (s .n) (s .stations) (s .sent)) + length (verdictLine v) + 6
-size-is s v e = rw (sym (listing-is (s .n) (s .tick) (s .stations) (s .sent) v e), length-append (tickWord ++ decimal (s .tick) ++ newline ++ stationLines (s .n) (s .stations) (s .sent)) (verdictLine v), length-append (tickWord ++ decimal (s .tick) ++ newline) (stationLines (s .n) (s .stations) (s .sent)), length-append (tickWord ++ decimal (s .tick)) newline) (omega arith)
+-- its length is the sum of its parts'
+pub size-is : (n tick : ℕ) (stations : List Station) (sent : List ℕ) (v : Verdict) → length (listingWith n tick stations sent v) ≡ length (decimal tick) + length (stationLines n stations sent) + length (verdictLine v) + 6
+size-is n tick stations sent v = rw (length-append (tickWord ++ decimal tick ++ newline ++ stationLines n stations sent) (verdictLine v), length-append (tickWord ++ decimal tick ++ newline) (stationLines n stations sent), length-append (tickWord ++ decimal tick) newline) (omega arith)
 
 -- the length of what a station knows
 pub known-up : (n : ℕ) (x : Station) → x .up ≡ true → length (known n x) ≡ length (decimal (x .incarnation)) + length (vector n (x .recovered)) + 10

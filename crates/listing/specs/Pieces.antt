@@ -1,8 +1,9 @@
--- The three parts of a station's line that the code writes in one go.
+-- What the code writes in one go: the three parts of a station's line, and a listing whose verdict is known.
 use mathlib.Core.List.{List, _++_}
 use Prim.Native.Nat.{ℕ}
 use Rattle.station.specs.declared.Station.{Station}
-use Rattle.election.specs.Listing.{newline, incWord, sentWord, keptWord, named, status, leaderOf, vectorOf}
+use Rattle.election.specs.Listing.{decimal, newline, tickWord, incWord, sentWord, keptWord, named, status, leaderOf, vectorOf, stationLines, verdictLine}
+use Rattle.election.specs.declared.Verdict.{Verdict}
 
 -- who it is, what it knows, what it sent and keeps
 unfoldable pub who : ℕ → Station → List ℕ
@@ -13,3 +14,7 @@ known n x = named incWord (x .incarnation) ++ vectorOf n (x .up) (x .recovered)
 
 unfoldable pub ends : ℕ → Station → List ℕ
 ends sent x = named sentWord sent ++ (named keptWord (x .stable) ++ newline)
+
+-- the tick, a line for each station, and a verdict
+abbrev pub listingWith : ℕ → ℕ → List Station → List ℕ → Verdict → List ℕ
+listingWith n tick stations sent v = tickWord ++ decimal tick ++ newline ++ stationLines n stations sent ++ verdictLine v

@@ -1,7 +1,9 @@
-// The listing of a system, written into a buffer that the caller lends: piece after piece, each into the part of the buffer that is left.
+// The listing of a system, written into a buffer that the caller lends: piece after piece, each into the part of the buffer that is left; and the
+// search for agreement, which finds its verdict.
 ghost use mathlib.Core.Path.{_≡_};
 ghost use Rattle.election.specs.Listing.{listed, said};
-use crate::rules::write_listing;
+use crate::rules::put_listing;
+use crate::search::search;
 use crate::sizes::listing_size;
 use election::Answer;
 use election::Refusal;
@@ -9,6 +11,7 @@ use election::System;
 use soundness::sound;
 
 pub mod rules;
+pub mod search;
 mod sizes;
 mod text;
 
@@ -22,10 +25,12 @@ pub fn listing(s: System, buffer: &mut [u8]) -> Answer
     if !s.ready {
         return Answer::Refused(Refusal::NotSetUp);
     }
-    if buffer.len() < listing_size(s) {
-        return Answer::Refused(Refusal::BufferShort);
-    }
     let stations = s.stations;
     let sent = s.sent;
-    Answer::Done(write_listing(s.n, s.tick, stations, sent, buffer))
+    let found = search(s.n, stations);
+    let v = found.finding;
+    if buffer.len() < listing_size(s, v) {
+        return Answer::Refused(Refusal::BufferShort);
+    }
+    Answer::Done(put_listing(s.n, s.tick, stations, sent, v, buffer))
 }

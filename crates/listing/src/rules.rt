@@ -1,11 +1,11 @@
-// What stands in a listing, and its pieces written.
-ghost use mathlib.Core.Path.{_≡_};
+// The pieces of a listing, and the listing, written into a buffer that has room: `listing` asks for it before anything is written.
 ghost use Prim.Native.Nat.{_+_, _≤_};
 ghost use lib.ListN.{length};
 ghost use mathlib.Core.Bool.{cond};
-ghost use Rattle.election.specs.Listing.{upWord, downWord, countOf, vector, status, leaderOf, vectorOf, stationLine, stationLines, dark, trusts, allTrust, leaderAfter, aLeader, upAmong, verdict, verdictLine, listingOf};
-ghost use Rattle.listing.specs.Pieces.{who, known, ends};
+ghost use Rattle.election.specs.Listing.{upWord, downWord, countOf, vector, status, leaderOf, vectorOf, stationLine, stationLines, verdictLine, listingOf};
+ghost use Rattle.listing.specs.Pieces.{who, known, ends, listingWith};
 ghost use Rattle.listing.specs.Wrote.{Wrote};
+use crate::search::search;
 use crate::text::put;
 use crate::text::put_decimal;
 use crate::text::put_last;
@@ -132,90 +132,6 @@ fn put_lines(n: usize, stations: [Station; 8], sent: [u32; 8], buffer: &mut [u8]
     at
 }
 
-// Whether none of the first n stations is up.
-fn all_down(n: usize, stations: [Station; 8]) -> bool
-    requires { ⌜ n ≤ 8 ⌝ }
-    ensures { λ r. ⌜ r ≡ dark n stations ⌝ }
-{
-    for k in 0..n {
-        let x = stations[k];
-        if x.up {
-            return false;
-        }
-    }
-    true
-}
-
-// Whether a station trusts l, if it is up.
-fn trusts(x: Station, l: u8) -> bool
-    ensures { λ r. ⌜ r ≡ trusts l x ⌝ }
-{
-    if x.up { x.leader == l } else { true }
-}
-
-// Whether all up stations among the first n trust l.
-fn all_trust(n: usize, stations: [Station; 8], l: u8) -> bool
-    requires { ⌜ n ≤ 8 ⌝ }
-    ensures { λ r. ⌜ r ≡ allTrust n stations l ⌝ }
-{
-    for k in 0..n {
-        if !trusts(stations[k], l) {
-            return false;
-        }
-    }
-    true
-}
-
-// The leader of a station that is up, or the one before it.
-fn leader_after(x: Station, l: u8) -> u8
-    ensures { λ r. ⌜ r ≡ leaderAfter x l ⌝ }
-{
-    if x.up { x.leader } else { l }
-}
-
-// The leader of the last up station among the first n, 0 if none is up.
-fn last_leader(n: usize, stations: [Station; 8]) -> u8
-    requires { ⌜ n ≤ 8 ⌝ }
-    ensures { λ r. ⌜ r ≡ aLeader n stations ⌝ }
-{
-    let mut l = 0;
-    for k in 0..n {
-        l = leader_after(stations[k], l);
-    }
-    l
-}
-
-// Whether station l is one of the first n, and up.
-fn up_among(n: usize, stations: [Station; 8], l: u8) -> bool
-    requires { ⌜ n ≤ 8 ⌝ }
-    ensures { λ r. ⌜ r ≡ upAmong n stations l ⌝ }
-{
-    let p = l as usize;
-    if (1 <= p) & (p <= n) {
-        let x = stations[p - 1];
-        return x.up;
-    }
-    false
-}
-
-// The verdict on the first n stations.
-pub fn verdict(n: usize, stations: [Station; 8]) -> Verdict
-    requires { ⌜ n ≤ 8 ⌝ }
-    ensures { λ r. ⌜ r ≡ verdict n stations ⌝ }
-{
-    if all_down(n, stations) {
-        return Verdict::Dark;
-    }
-    let l = last_leader(n, stations);
-    if !all_trust(n, stations, l) {
-        return Verdict::Split;
-    }
-    if up_among(n, stations, l) {
-        return Verdict::Agreed(l);
-    }
-    Verdict::AgreedDark(l)
-}
-
 // Writes the verdict.
 fn put_verdict(v: Verdict, buffer: &mut [u8]) -> usize
     requires { ⌜ length (verdictLine v) ≤ length (now buffer) ⌝ }
@@ -229,6 +145,24 @@ fn put_verdict(v: Verdict, buffer: &mut [u8]) -> usize
     }
 }
 
+// Writes the listing whose verdict is v.
+pub(crate) fn put_listing(
+    n: u8,
+    tick: u32,
+    stations: [Station; 8],
+    sent: [u32; 8],
+    v: Verdict,
+    buffer: &mut [u8],
+) -> usize
+    requires { ⌜ (n ≤ 8) × (length (listingWith n tick stations sent v) ≤ length (now buffer)) ⌝ }
+    ensures { λ r. ⌜ Wrote (listingWith n tick stations sent v) (now (buffer .entry)) r (now (buffer .exit)) ⌝ }
+{
+    let most = n as usize;
+    let a = put_last(b"tick ", tick as u64, buffer);
+    let b = a + put_lines(most, stations, sent, &mut buffer[a..]);
+    b + put_verdict(v, &mut buffer[b..])
+}
+
 // Writes the listing of a system at the front of a buffer that has room for it, from what it shows of the system.
 pub fn write_listing(
     n: u8,
@@ -240,9 +174,7 @@ pub fn write_listing(
     requires { ⌜ (n ≤ 8) × (length (listingOf n tick stations sent) ≤ length (now buffer)) ⌝ }
     ensures { λ r. ⌜ Wrote (listingOf n tick stations sent) (now (buffer .entry)) r (now (buffer .exit)) ⌝ }
 {
-    let most = n as usize;
-    let v = verdict(most, stations);
-    let a = put_last(b"tick ", tick as u64, buffer);
-    let b = a + put_lines(most, stations, sent, &mut buffer[a..]);
-    b + put_verdict(v, &mut buffer[b..])
+    let found = search(n, stations);
+    let v = found.finding;
+    put_listing(n, tick, stations, sent, v, buffer)
 }

@@ -2,9 +2,8 @@
 ghost use mathlib.Core.Path.{_≡_};
 ghost use Prim.Native.Nat.{_+_, _≤_};
 ghost use lib.ListN.{length};
-ghost use Rattle.listing.specs.Pieces.{who, known};
-ghost use Rattle.election.specs.Listing.{countOf, vector, stationLine, stationLines, verdictLine, listing};
-use crate::rules::verdict;
+ghost use Rattle.listing.specs.Pieces.{who, known, listingWith};
+ghost use Rattle.election.specs.Listing.{countOf, vector, stationLine, stationLines, verdictLine};
 use crate::text::decimal_size;
 use election::System;
 use election::Verdict;
@@ -91,15 +90,14 @@ fn verdict_size(v: Verdict) -> usize
     }
 }
 
-// The length of the listing of a system.
-pub(crate) fn listing_size(s: System) -> usize
+// The length of the listing of a system whose verdict is v.
+pub(crate) fn listing_size(s: System, v: Verdict) -> usize
     requires { ⌜ s .n ≤ 8 ⌝ }
-    ensures { λ r. ⌜ r ≡ length (listing s) ⌝ }
+    ensures { λ r. ⌜ r ≡ length (listingWith (s .n) (s .tick) (s .stations) (s .sent) v) ⌝ }
 {
     let n = s.n as usize;
     let stations = s.stations;
     let sent = s.sent;
     let tick = decimal_size(s.tick as u64);
-    let v = verdict(n, stations);
     tick + lines_size(n, stations, sent) + verdict_size(v) + 6
 }

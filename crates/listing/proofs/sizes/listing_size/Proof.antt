@@ -6,7 +6,7 @@ use Rattle.listing.proofs.sizes.listing_size.Tie as tie
 use Rattle.listing.proofs.sizes.listing_size.Statement.{statement}
 
 returns : tie.Need-returns
-returns c = omega (arith, size-is (c .before .before .before .before .before .before .before .before .args .s) (c .before .before .verdict .result) (c .before .before .verdict .ensures))
+returns c = let start = c .before .before .before .before .before .before .before .args in omega (arith, size-is (start .s .n) (start .s .tick) (start .s .stations) (start .s .sent) (start .v))
 
 pub listing-size-spec : {M : Type 1} → statement M
 listing-size-spec =
@@ -14,7 +14,6 @@ listing-size-spec =
     (tie.spec
     (λ c. search needs)
     (λ c. search needs)
-    (λ c κs. search needs)
     (λ c κs. search needs)
     (λ c κs. search needs)
     (λ c. search needs)

@@ -1,7 +1,7 @@
--- The function rules::trusts meets its contract.
+-- The function search::trusts meets its contract.
 use borrow.Author.Needs.{needs}
-use Rattle.listing.proofs.rules.trusts.Tie as tie
-use Rattle.listing.proofs.rules.trusts.Statement.{statement}
+use Rattle.listing.proofs.search.trusts.Tie as tie
+use Rattle.listing.proofs.search.trusts.Statement.{statement}
 
 returns : tie.Need-returns
 returns c = rw (c .before .if1 .taken)
