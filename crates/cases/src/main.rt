@@ -8,6 +8,7 @@ mod listings;
 mod numbers;
 mod row;
 mod schedules;
+mod searches;
 mod stations;
 mod systems;
 mod table;

@@ -8,6 +8,7 @@
 //   D < schedule > command               hands a command to the system that the schedule leaves
 //   J < schedule > command               the same, and says whether that system is sound
 //   T < schedule > buffer                lists that system into the buffer
+//   V n = leaders % flags                searches n stations with these leaders for agreement; those with flag 1 are up
 // Numbers are decimal, and 0 where they are left out. A station is its starts, kept leader, up, leader, timer, slot and wait, then
 // / and the counts that it knows, + and its timeouts. Bytes are in hex: *7(09 0a) is 09 0a seven times, and " in place of < and a
 // schedule is the schedule of the line before. A letter behind the bytes changes a number of the system to x before the operation:
@@ -28,6 +29,7 @@ use crate::row::NAME;
 use crate::row::Row;
 use crate::row::blank;
 use crate::schedules::schedule_case;
+use crate::searches::search_case;
 use crate::stations::station_case;
 
 // The value of a digit, 16 for another byte.
@@ -166,6 +168,7 @@ fn run_row(r: Row, bytes: &mut [u8]) {
         b'R' => read_case(r, bytes),
         b'P' => schedule_case(r, bytes),
         b'D' | b'J' | b'T' => desk_case(r, bytes),
+        b'V' => search_case(r),
         _ => station_case(r),
     }
 }
