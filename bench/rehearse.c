@@ -251,27 +251,50 @@ static char *put_station(char *at, uint32_t p) {
     return at;
 }
 
+enum finding { DARK, AGREED, AGREED_DARK, SPLIT };
+
+struct search {
+    enum finding finding;
+    uint32_t leader; // the one agreed on, else 0
+    uint32_t ended;  // the station where the search ended; no listing shows it
+};
+
+// Ends at the first up station whose leader is not that of the up stations before it, else at the last station.
+static struct search search_agreement(void) {
+    uint32_t leader = 0;
+    for (uint32_t p = 1; p <= stations; p++) {
+        if (!station[p].up)
+            continue;
+        if (leader != 0 && leader != station[p].leader)
+            return (struct search){ SPLIT, 0, p };
+        leader = station[p].leader;
+    }
+    if (leader == 0)
+        return (struct search){ DARK, 0, stations };
+    return (struct search){ station[leader].up ? AGREED : AGREED_DARK, leader, stations };
+}
+
 static void report(void) {
     char listing[1024]; // the longest takes less
     char *at = put_number(put_text(listing, "tick "), tick);
-    uint32_t leader = 0;
-    bool split = false;
     *at++ = '\n';
-    for (uint32_t p = 1; p <= stations; p++) {
+    for (uint32_t p = 1; p <= stations; p++)
         at = put_station(at, p);
-        if (station[p].up) {
-            split = split || (leader != 0 && leader != station[p].leader);
-            leader = station[p].leader;
-        }
-    }
-    if (leader == 0)
+    struct search found = search_agreement();
+    switch (found.finding) {
+    case DARK:
         at = put_text(at, "dark");
-    else if (split)
+        break;
+    case AGREED:
+        at = put_number(put_text(at, "agreed "), found.leader);
+        break;
+    case AGREED_DARK:
+        at = put_number(put_text(at, "agreed dark "), found.leader);
+        break;
+    case SPLIT:
         at = put_text(at, "split");
-    else if (station[leader].up)
-        at = put_number(put_text(at, "agreed "), leader);
-    else
-        at = put_number(put_text(at, "agreed dark "), leader);
+        break;
+    }
     *at++ = '\n';
     fwrite(listing, 1, (size_t)(at - listing), stdout);
 }

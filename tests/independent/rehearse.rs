@@ -1,6 +1,9 @@
-// Document 01 once more, with Papers 1 to 3 of document 02, in plain Rust: reads a schedule from standard input, does its commands tick by tick and
+// Document 01 once more, with Papers 1 to 4 of document 02, in plain Rust: reads a schedule from standard input, does its commands tick by tick and
 // prints what the rehearsal program must print. Written from the papers alone; tests/compare holds the product to it.
 
+mod search;
+
+use search::{last_line, search};
 use std::io::{self, BufWriter, Read, Write};
 
 const LONGEST_SCHEDULE: usize = 65_536;
@@ -185,14 +188,10 @@ impl Desk {
                 s.number, s.kept_count, s.sent, s.kept_leader
             );
         }
-        let leaders: Vec<u64> = self.stations.iter().filter_map(|s| s.up.as_ref()).map(|up| up.leader).collect();
-        let is_up = |number: u64| self.stations.iter().any(|s| s.number == number && s.up.is_some());
-        text += &match leaders.first() {
-            None => "dark\n".to_string(),
-            Some(first) if leaders.iter().any(|l| l != first) => "split\n".to_string(),
-            Some(&first) if is_up(first) => format!("agreed {first}\n"),
-            Some(first) => format!("agreed dark {first}\n"), // paper 2
-        };
+        let leaders: Vec<Option<u64>> = self.stations.iter().map(|s| s.up.as_ref().map(|up| up.leader)).collect();
+        let finding = last_line(&leaders);
+        assert_eq!(search(leaders).0, finding); // paper 4: no listing differs
+        text += &format!("{finding}\n");
         text
     }
 
