@@ -8,7 +8,7 @@ use Prim.Native.Nat.{ℕ, zero, suc, _+_, _-_, _<_, _≤_}
 use native.Mathlib.Decide.{decLt, ℕ-discrete}
 use native.Mathlib.Omega.{arith}
 use lib.Dec.{ltb}
-use lib.ListN.{getD}
+use lib.ListN.{length, getD, length-set}
 use borrow.Author.Tests.{lt-ltb, le-ltb}
 use Rattle.lists.specs.Entries.{upTo}
 use Rattle.lists.proofs.Bools.{true-unless, false-unless}
@@ -35,7 +35,7 @@ is-split (AgreedDark l) e = absurd (true≢false (sym e))
 is-split Split e = refl
 
 -- the first k are split exactly where two up ones of them differ
-split-differ : (k : ℕ) (stations : List Station) → isSplit (verdict k stations) ≡ true → TwoDiffer k stations
+pub split-differ : (k : ℕ) (stations : List Station) → isSplit (verdict k stations) ≡ true → TwoDiffer k stations
 split-differ k stations e = verdict-exact k stations Split .0 (is-split (verdict k stations) e)
 
 pub differ-split : (k : ℕ) (stations : List Station) → TwoDiffer k stations → isSplit (verdict k stations) ≡ true
@@ -155,6 +155,7 @@ not-before n stations k l =
 -- other stations with which a system is sound, the same up to k, and down after that up to m: they crash
 record Quieted (s : System) (k m : ℕ) : Type 0 where
   others : List Station
+  long : length others ≡ length (s .stations)
   is-sound : Sound (withStations others s)
   same : SameTo k (s .stations) others
   down : (p : ℕ) → k < p → p ≤ m → stationOf others p .up ≡ false
@@ -171,7 +172,7 @@ module _ (s : System) (k m : ℕ) (q : Quieted s k m) (from : k ≤ m) (h : m < 
   i = record { low = omega arith; high = omega (arith, h) }
 
   is-down : station t (m + 1) .up ≡ false → Quieted s k (m + 1)
-  is-down e = record { others = q .others; is-sound = q .is-sound; same = q .same; down = λ p a b. at p a b (ℕ-discrete p (m + 1)) }
+  is-down e = record { others = q .others; long = q .long; is-sound = q .is-sound; same = q .same; down = λ p a b. at p a b (ℕ-discrete p (m + 1)) }
     where
       at : (p : ℕ) → k < p → p ≤ m + 1 → Dec (p ≡ m + 1) → station t p .up ≡ false
       at p a b (yes z) = ap (λ y. station t y .up) z ∙ e
@@ -181,6 +182,7 @@ module _ (s : System) (k m : ℕ) (q : Quieted s k m) (from : k ≤ m) (h : m < 
   crashes e =
       record {
         others = withStation (m + 1) x t .stations;
+        long = length-set (q .others) (m + 1 - 1) x ∙ q .long;
         is-sound = crash-sound t (q .is-sound) (m + 1) i e;
         same = λ p a b. changed-other t (q .is-sound) (m + 1) i x p a (λ z. omega (arith, z, b, from)) ∙ q .same p a b;
         down = λ p a b. at p a b (ℕ-discrete p (m + 1));
@@ -199,7 +201,7 @@ module _ (s : System) (k m : ℕ) (q : Quieted s k m) (from : k ≤ m) (h : m < 
       go false e = is-down e
 
 quieted : (s : System) → Sound s → (k j : ℕ) → k + j ≤ s .n → Quieted s k (k + j)
-quieted s f k zero h = record { others = s .stations; is-sound = f; same = λ p a b. refl; down = λ p a b. absurd (omega (arith, a, b)) }
+quieted s f k zero h = record { others = s .stations; long = refl; is-sound = f; same = λ p a b. refl; down = λ p a b. absurd (omega (arith, a, b)) }
 quieted s f k (suc j) h =
     let more : k + j + 1 ≡ k + suc j = omega arith in
     subst (Quieted s k) more (quieter s k (k + j) (quieted s f k j (omega (arith, h))) (omega arith) (omega (arith, h)))
@@ -209,6 +211,7 @@ not-before-sound s e r k l =
     let w : SearchEnds (s .n) (s .stations) (endsAt (s .n) (s .stations)) = search-ends (s .n) (s .stations) in
     let q : Quieted s k (k + (s .n - k)) = quieted s (sound-of s e r) k (s .n - k) (omega (arith, l, w .high)) in (
       q .others,
+      q .long,
       q .same,
       of-sound (withStations (q .others) s) (q .is-sound) r,
       not-split k (s .n) (s .stations) (q .others) (q .same) (λ p a b. q .down p a (omega (arith, b, l, w .high))) (w .undecided k l),
@@ -275,6 +278,6 @@ ends-exact n stations =
 pub ends-exact-sound : EndsExactSound
 ends-exact-sound s h r =
     exact (s .n) (s .stations) (CanOnlySplitSound s)
-    (λ e others same i. only-split (s .n) (s .stations) (is-split (verdict (s .n) (s .stations)) e) others same)
-    (λ k l c. let (others, same, i, ne) = not-before-sound s h r k l in ne (c others same i))
-    (λ e k c. true≢false (sym (ap isSplit (c (s .stations) (λ p a b. refl) h)) ∙ e))
+    (λ e others long same i. only-split (s .n) (s .stations) (is-split (verdict (s .n) (s .stations)) e) others same)
+    (λ k l c. let (others, long, same, i, ne) = not-before-sound s h r k l in ne (c others long same i))
+    (λ e k c. true≢false (sym (ap isSplit (c (s .stations) refl (λ p a b. refl) h)) ∙ e))

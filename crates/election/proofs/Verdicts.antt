@@ -52,7 +52,7 @@ module _ (n : ℕ) (stations : List Station) where
   unfolding dark
   some-up e = let (k, h, f) = all-fails n (λ k. not (getD stations k noStation .up)) e in (k + 1, up-at n stations k h (not-false (getD stations k noStation .up) f))
 
-  all-trust : (l : ℕ) → allTrust n stations l ≡ true → AllTrust n stations l
+  pub all-trust : (l : ℕ) → allTrust n stations l ≡ true → AllTrust n stations l
   unfolding allTrust
   all-trust l e p (low, high, u) =
       eqb-true (trusted stations p) l (rw u at (all-at n (p - 1) (λ k. trusts l (getD stations k noStation)) e (omega (arith, low, high))))

@@ -5,6 +5,7 @@ use mathlib.Core.Logic.{_≢_, _↔_, _⊎_}
 use mathlib.Core.List.{List}
 use mathlib.Core.Bool.{Bool, true, false, cond}
 use Prim.Native.Nat.{ℕ, zero, suc, _<_, _≤_}
+use lib.ListN.{length}
 use Rattle.station.specs.declared.Station.{Station}
 use Rattle.election.specs.Listing.{verdict}
 use Rattle.election.specs.Sound.{sound}
@@ -39,10 +40,11 @@ SameTo k stations others = (p : ℕ) → 1 ≤ p → p ≤ k → stationOf other
 abbrev pub CanOnlySplit : ℕ → List Station → ℕ → Type 0
 CanOnlySplit n stations k = (others : List Station) → SameTo k stations others → verdict n others ≡ Split
 
--- the same, of a system: every list with the same stations 1 to k with which the system is sound is split
+-- the same, of a system: every list as long as its own, with the same stations 1 to k, with which the system is sound is split
 abbrev pub CanOnlySplitSound : System → ℕ → Type 0
 CanOnlySplitSound s k =
-    (others : List Station) → SameTo k (s .stations) others → sound (withStations others s) ≡ true → verdict (s .n) others ≡ Split
+    (others : List Station) → length others ≡ length (s .stations) → SameTo k (s .stations) others → sound (withStations others s) ≡ true
+    → verdict (s .n) others ≡ Split
 
 -- p is the first up station after which the line can only be split, by either of these; or there is none, and p is n
 abbrev pub EndsThere : ℕ → List Station → (ℕ → Type 0) → ℕ → Type 0
@@ -62,7 +64,7 @@ EndsExactSound =
 abbrev pub OnlySplit : Type 0
 OnlySplit = (n : ℕ) (stations : List Station) → verdict n stations ≡ Split → CanOnlySplit n stations (endsAt n stations)
 
--- before that it is open, from k = 0 on: some list with the same stations 1 to k is not split; of a system, one with which it is sound
+-- before that it is open, from k = 0 on: some list with the same stations 1 to k is not split; of a system, one as long, with which it is sound
 abbrev pub NotBefore : Type 0
 NotBefore =
     (n : ℕ) (stations : List Station) (k : ℕ) → k < endsAt n stations
@@ -71,7 +73,7 @@ NotBefore =
 abbrev pub NotBeforeSound : Type 0
 NotBeforeSound =
     (s : System) → sound s ≡ true → s .ready ≡ true → (k : ℕ) → k < endsAt (s .n) (s .stations)
-    → (others : List Station) × SameTo k (s .stations) others × (sound (withStations others s) ≡ true) × (verdict (s .n) others ≢ Split)
+    → (others : List Station) × (length others ≡ length (s .stations)) × SameTo k (s .stations) others × (sound (withStations others s) ≡ true) × (verdict (s .n) others ≢ Split)
 
 -- where the line is not split, the search ends at station n
 abbrev pub ElseLast : Type 0

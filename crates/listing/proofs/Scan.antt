@@ -10,7 +10,7 @@ use lib.ListN.{length, getD, List·getD-eq-default}
 use borrow.Author.Tests.{not-true, not-false, eqb-true, eqb-false, eq-eqb, le-leb, lt-leb}
 use Rattle.lists.specs.Fold.{each}
 use Rattle.lists.specs.Test.{allTo}
-use Rattle.lists.proofs.Bools.{both}
+use Rattle.lists.proofs.Bools.{both, false-unless}
 use Rattle.lists.proofs.Test.{all-at, all-of}
 use Rattle.fit.specs.Fit.{within}
 use Rattle.fit.proofs.Tests.{within-of}
@@ -22,8 +22,8 @@ use Rattle.election.specs.Verdicts.{Up, trusted, TwoDiffer}
 use Rattle.election.specs.declared.Verdict.{Verdict}
 use Rattle.election.specs.declared.Verdict.the-variants.{Dark, Agreed, AgreedDark, Split}
 use Rattle.election.proofs.Places.{seat-at}
-use Rattle.election.proofs.Search.{differ-split, stays-split, is-split, search-ends, ends-with}
-use Rattle.election.proofs.Verdicts.{up-at, a-leader, some-up}
+use Rattle.election.proofs.Search.{split-differ, differ-split, stays-split, is-split, search-ends, ends-with}
+use Rattle.election.proofs.Verdicts.{up-at, a-leader, some-up, all-trust}
 
 -- what is known after k stations: whether one is up, and the leader that all up ones trust
 pub record Seen (stations : List Station) (k : ℕ) (some : Bool) (l : ℕ) : Type 0 where
@@ -80,13 +80,9 @@ module _ (stations : List Station) (k : ℕ) (some : Bool) (l : ℕ) (s : Seen s
 
   -- the first k do not
   not-yet : isSplit (verdict k stations) ≡ false
-  unfolding verdict
-  not-yet = go (dark k stations) refl (upAmong k stations (aLeader k stations)) refl
-    where
-      go : (d : Bool) → dark k stations ≡ d → (u : Bool) → upAmong k stations (aLeader k stations) ≡ u → isSplit (verdict k stations) ≡ false
-      go true e u f = rw e
-      go false e true f = rw (e, ← (s .leader), s .agreed, s .leader, f)
-      go false e false f = rw (e, ← (s .leader), s .agreed, s .leader, f)
+  not-yet =
+      false-unless (isSplit (verdict k stations))
+      (λ e. let (p, q, u, v, ne) = split-differ k stations e in ne (all-trust k stations l (s .agreed) p u ∙ sym (all-trust k stations l (s .agreed) q v)))
 
   -- so the search ends there
   pub seen-split : (n : ℕ) → k < n → (some && not (trusts l x)) ≡ true → record { finding = Split; ended = k + 1 } ≡ searched n stations
