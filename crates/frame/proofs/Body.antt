@@ -9,38 +9,38 @@ use lib.Seq.{take-suc, length-take-le, ext-getD}
 use Rattle.lists.specs.Entries.{upTo, over}
 use Rattle.lists.proofs.Entries.{length-upTo, getD-upTo, over-snoc}
 use Rattle.frame.specs.Claims.{Octets}
-use Rattle.frame.specs.Frame.{body, frame}
-use Rattle.frame.specs.Reading.{countAt, countsOf, senderOf}
+use Rattle.frame.specs.Frame.{body, frame, header, frameSize}
+use Rattle.frame.specs.Reading.{countAt, countsOf, senderOf, writtenCount}
 
-length-body : (cs : List ℕ) → length (body cs) ≡ 2 * length cs
+pub length-body : (cs : List ℕ) → length (body cs) ≡ 2 * length cs
 unfolding body
 length-body [] = refl
 length-body (c ∷ cs) = omega (arith, length-body cs)
 
-pub length-frame : (s : ℕ) (cs : List ℕ) → length (frame s cs) ≡ 2 + 2 * length cs
+pub length-frame : (n s : ℕ) (cs : List ℕ) → length (frame n s cs) ≡ frameSize (length cs)
 unfolding frame
-length-frame s cs = omega (arith, length-body cs)
+length-frame n s cs = omega (arith, length-body cs)
 
 body-append : (cs ds : List ℕ) → body (cs ++ ds) ≡ body cs ++ body ds
 unfolding body
 body-append [] ds = refl
 body-append (c ∷ cs) ds = rw (body-append cs ds)
 
-frame-snoc : (s : ℕ) (cs : List ℕ) (c : ℕ) → frame s (cs ++ (c ∷ [])) ≡ (frame s cs ++ (c % 256 ∷ [])) ++ (c / 256 ∷ [])
+frame-snoc : (n s : ℕ) (cs : List ℕ) (c : ℕ) → frame n s (cs ++ (c ∷ [])) ≡ (frame n s cs ++ (c % 256 ∷ [])) ++ (c / 256 ∷ [])
 unfolding body frame
-frame-snoc s cs c = rw (body-append, append-assoc)
+frame-snoc n s cs c = rw (body-append, append-assoc)
 
 -- a turn of a loop that lays the frame over the front of old, count after count
 pub frame-turn :
-    (s : ℕ) (cs old r : List ℕ) (k : ℕ) → k < length cs → 2 + 2 * length cs ≤ length old → r ≡ over (frame s (take k cs)) old
-    → set (set r (2 + 2 * k) (getD cs k 0 % 256)) (3 + 2 * k) (getD cs k 0 / 256) ≡ over (frame s (take (k + 1) cs)) old
-frame-turn s cs old r k h room e =
-    let l : List ℕ = frame s (take k cs) in
+    (n s : ℕ) (cs old r : List ℕ) (k : ℕ) → k < length cs → frameSize (length cs) ≤ length old → r ≡ over (frame n s (take k cs)) old
+    → set (set r (header + 2 * k) (getD cs k 0 % 256)) (header + 2 * k + 1) (getD cs k 0 / 256) ≡ over (frame n s (take (k + 1) cs)) old
+frame-turn n s cs old r k h room e =
+    let l : List ℕ = frame n s (take k cs) in
     let c : ℕ = getD cs k 0 in
-    let n : 2 + 2 * k ≡ length l = omega (arith, length-frame s (take k cs), length-take-le k cs (omega arith)) in
+    let at : header + 2 * k ≡ length l = omega (arith, length-frame n s (take k cs), length-take-le k cs (omega arith)) in
     rw (add-one k, take-suc cs k 0, frame-snoc)
-    (over-snoc (l ++ (c % 256 ∷ [])) old _ (3 + 2 * k) (c / 256) (omega (arith, length-append l (c % 256 ∷ []))) (omega arith)
-    (over-snoc l old r (2 + 2 * k) (c % 256) n (omega arith) e))
+    (over-snoc (l ++ (c % 256 ∷ [])) old _ (header + 2 * k + 1) (c / 256) (omega (arith, length-append l (c % 256 ∷ []))) (omega arith)
+    (over-snoc l old r (header + 2 * k) (c % 256) at (omega arith) e))
 
 -- the low and the high byte of a count give it back
 pair-at : (cs : List ℕ) (k : ℕ) → getD (body cs) (2 * k) 0 + 256 * getD (body cs) (2 * k + 1) 0 ≡ getD cs k 0
@@ -52,11 +52,11 @@ pair-at (c ∷ cs) (suc k) =
     let f : 2 * suc k ≡ suc (suc (2 * k)) = omega arith in
     rw (e, f) (pair-at cs k)
 
-countAt-frame : (s : ℕ) (cs : List ℕ) (k : ℕ) → countAt (frame s cs) k ≡ getD cs k 0
+countAt-frame : (n s : ℕ) (cs : List ℕ) (k : ℕ) → countAt (frame n s cs) k ≡ getD cs k 0
 unfolding frame
-countAt-frame s cs k =
-    let e : 3 + 2 * k ≡ suc (suc (2 * k + 1)) = omega arith in
-    let f : 2 + 2 * k ≡ suc (suc (2 * k)) = omega arith in
+countAt-frame n s cs k =
+    let e : header + 2 * k + 1 ≡ suc (suc (suc (2 * k + 1))) = omega arith in
+    let f : header + 2 * k ≡ suc (suc (suc (2 * k))) = omega arith in
     rw (e, f) (pair-at cs k)
 
 pub length-countsOf : (n : ℕ) (bytes : List ℕ) → length (countsOf n bytes) ≡ n
@@ -64,25 +64,27 @@ unfolding countsOf
 length-countsOf n bytes = length-upTo n (countAt bytes)
 
 -- the counts of a frame are those that it was made of
-pub countsOf-frame : (n s : ℕ) (cs : List ℕ) → length cs ≡ n → countsOf n (frame s cs) ≡ cs
+pub countsOf-frame : (n s : ℕ) (cs : List ℕ) → length cs ≡ n → countsOf n (frame n s cs) ≡ cs
 unfolding countsOf
 countsOf-frame n s cs e =
     ext-getD 0 _ cs (length-upTo n _ ∙ sym e)
-    (λ i h. getD-upTo n _ i 0 (omega (arith, length-upTo n (countAt (frame s cs)))) ∙ countAt-frame s cs i)
+    (λ i h. getD-upTo n _ i 0 (omega (arith, length-upTo n (countAt (frame n s cs)))) ∙ countAt-frame n s cs i)
 
 -- bytes that begin with the mark are the frame of what is read from them
-frame-none : (bytes : List ℕ) → getD bytes 0 0 ≡ 0x10 → 2 ≤ length bytes → frame (senderOf bytes) [] ≡ take 2 bytes
+frame-none : (bytes : List ℕ) → getD bytes 0 0 ≡ 0x10 → header ≤ length bytes → frame (writtenCount bytes) (senderOf bytes) [] ≡ take header bytes
 unfolding body frame
 frame-none [] m h = absurd (omega arith)
 frame-none (x ∷ []) m h = absurd (omega arith)
-frame-none (x ∷ y ∷ l) m h = rw m
+frame-none (x ∷ y ∷ []) m h = absurd (omega arith)
+frame-none (x ∷ y ∷ z ∷ l) m h = rw m
 
-pub frame-front : (n : ℕ) (bytes : List ℕ) → Octets bytes → getD bytes 0 0 ≡ 0x10 → 2 + 2 * n ≤ length bytes → frame (senderOf bytes) (countsOf n bytes) ≡ take (2 + 2 * n) bytes
+pub frame-front : (n : ℕ) (bytes : List ℕ) → Octets bytes → getD bytes 0 0 ≡ 0x10 → frameSize n ≤ length bytes → frame (writtenCount bytes) (senderOf bytes) (countsOf n bytes) ≡ take (frameSize n) bytes
 unfolding countsOf upTo
 frame-front zero bytes o m h = frame-none bytes m h
 frame-front (suc n) bytes o m h =
-    let e : countAt bytes n % 256 ≡ getD bytes (2 + 2 * n) 0 = omega (arith, o (2 + 2 * n)) in
-    let f : countAt bytes n / 256 ≡ getD bytes (3 + 2 * n) 0 = omega (arith, o (2 + 2 * n)) in
-    let i : 3 + 2 * n ≡ suc (2 + 2 * n) = omega arith in
-    let j : 2 + 2 * suc n ≡ suc (3 + 2 * n) = omega arith in
-    rw (frame-snoc, e, f, frame-front n bytes o m (omega arith), j, take-suc bytes (3 + 2 * n) 0 (omega arith), i, take-suc bytes (2 + 2 * n) 0 (omega arith))
+    let low : ℕ = header + 2 * n in
+    let e : countAt bytes n % 256 ≡ getD bytes low 0 = omega (arith, o low) in
+    let f : countAt bytes n / 256 ≡ getD bytes (low + 1) 0 = omega (arith, o low) in
+    let i : low + 1 ≡ suc low = omega arith in
+    let j : frameSize (suc n) ≡ suc (suc low) = omega arith in
+    rw (frame-snoc, e, f, frame-front n bytes o m (omega arith), j, take-suc bytes (suc low) 0 (omega arith), i, take-suc bytes low 0 (omega arith))

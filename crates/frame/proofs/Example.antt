@@ -1,8 +1,8 @@
--- The example of document 01.
+-- Frames computed: an example, and the order of the refusals.
 use mathlib.Core.Path.{refl}
 use Rattle.lists.specs.Entries.{upTo, over}
 use Rattle.lists.specs.Test.{allTo}
-use Rattle.frame.specs.Claims.{Example}
+use Rattle.frame.specs.Claims.{Example, Order}
 use Rattle.frame.specs.Frame.{body, frame, stationsIn, senderIn, countsIn}
 use Rattle.frame.specs.Reading.{countsOf, reading}
 use Rattle.frame.specs.Writing.{writing}
@@ -10,3 +10,7 @@ use Rattle.frame.specs.Writing.{writing}
 pub example : Example
 unfolding body frame stationsIn senderIn countsIn countsOf reading writing upTo over allTo
 example = (refl, refl)
+
+pub order : Order
+unfolding body frame stationsIn senderIn countsIn countsOf reading upTo over allTo
+order = (refl, refl, refl, refl, refl, refl, refl)

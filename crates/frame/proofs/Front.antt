@@ -1,4 +1,4 @@
--- A loop that begins after two stores at the front.
+-- A loop that begins after three stores at the front.
 use mathlib.Core.Path.{_≡_, refl}
 use mathlib.Core.List.{List, [], _∷_}
 use Prim.Native.Nat.{_≤_}
@@ -7,15 +7,17 @@ use lib.ListN.{length, set}
 use Rattle.lists.specs.Entries.{over}
 
 module _ {A : Type 0} where
-  -- two entries that were stored at its front lie over it, and are covered by what begins with them
-  pub pair-over : (x y : A) (l : List A) → 2 ≤ length l → set (set l 0 x) 1 y ≡ over (x ∷ y ∷ []) (set (set l 0 x) 1 y)
+  -- three entries that were stored at its front lie over it, and are covered by what begins with them
+  pub three-over : (x y z : A) (l : List A) → 3 ≤ length l → set (set (set l 0 x) 1 y) 2 z ≡ over (x ∷ y ∷ z ∷ []) (set (set (set l 0 x) 1 y) 2 z)
   unfolding over
-  pair-over x y [] h = absurd (omega arith)
-  pair-over x y (a ∷ []) h = absurd (omega arith)
-  pair-over x y (a ∷ b ∷ l) h = refl
+  three-over x y z [] h = absurd (omega arith)
+  three-over x y z (a ∷ []) h = absurd (omega arith)
+  three-over x y z (a ∷ b ∷ []) h = absurd (omega arith)
+  three-over x y z (a ∷ b ∷ c ∷ l) h = refl
 
-  pub over-pair : (x y : A) (f l : List A) → 2 ≤ length l → over (x ∷ y ∷ f) (set (set l 0 x) 1 y) ≡ over (x ∷ y ∷ f) l
+  pub over-three : (x y z : A) (f l : List A) → 3 ≤ length l → over (x ∷ y ∷ z ∷ f) (set (set (set l 0 x) 1 y) 2 z) ≡ over (x ∷ y ∷ z ∷ f) l
   unfolding over
-  over-pair x y f [] h = absurd (omega arith)
-  over-pair x y f (a ∷ []) h = absurd (omega arith)
-  over-pair x y f (a ∷ b ∷ l) h = refl
+  over-three x y z f [] h = absurd (omega arith)
+  over-three x y z f (a ∷ []) h = absurd (omega arith)
+  over-three x y z f (a ∷ b ∷ []) h = absurd (omega arith)
+  over-three x y z f (a ∷ b ∷ c ∷ l) h = refl

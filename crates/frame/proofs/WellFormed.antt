@@ -2,29 +2,30 @@
 use mathlib.Core.Path.{_≡_, refl, sym, ap, _∙_}
 use mathlib.Core.List.{List}
 use mathlib.Core.Bool.{true}
-use Prim.Native.Nat.{ℕ, _+_, _*_}
+use Prim.Native.Nat.{ℕ}
 use native.Mathlib.Omega.{arith}
 use lib.ListN.{length}
 use lib.Seq.{take-all}
 use Rattle.frame.specs.Claims.{Octets, WellFormed, ReadsWellFormed}
-use Rattle.frame.specs.Frame.{frame, stationsIn, senderIn, countsIn}
+use Rattle.frame.specs.Frame.{frame, frameSize, stationsIn, senderIn, countsIn}
 use Rattle.frame.specs.Reading.{Reading, countsOf, senderOf, reading}
 use Rattle.frame.proofs.Accepted.{Readable, readable, reading-of}
 use Rattle.frame.proofs.Body.{length-frame, length-countsOf, countsOf-frame, frame-front}
 use Rattle.frame.proofs.Ranges.{stations-range, sender-range, counts-range}
 
 -- what is read from bytes makes them again
-pub frame-countsOf : (n : ℕ) (bytes : List ℕ) → Octets bytes → Readable n bytes → frame (senderOf bytes) (countsOf n bytes) ≡ bytes
-frame-countsOf n bytes o r = frame-front n bytes o (r .mark) (omega arith) ∙ take-all (2 + 2 * n) bytes (omega arith)
+pub frame-countsOf : (n : ℕ) (bytes : List ℕ) → Octets bytes → Readable n bytes → frame n (senderOf bytes) (countsOf n bytes) ≡ bytes
+frame-countsOf n bytes o r = (rw (r .count) at (frame-front n bytes o (r .mark) (omega arith))) ∙ take-all (frameSize n) bytes (omega arith)
 
 -- a frame of numbers in their ranges is read
-pub readable-frame : (n sender : ℕ) (counts : List ℕ) → stationsIn n ≡ true → length counts ≡ n → senderIn n sender ≡ true → countsIn sender counts ≡ true → Readable n (frame sender counts)
+pub readable-frame : (n sender : ℕ) (counts : List ℕ) → stationsIn n ≡ true → length counts ≡ n → senderIn n sender ≡ true → countsIn sender counts ≡ true → Readable n (frame n sender counts)
 unfolding frame
 readable-frame n sender counts a b c d =
     record {
       stations = a;
-      size = length-frame sender counts ∙ rw b;
+      size = length-frame n sender counts ∙ rw b;
       mark = refl;
+      count = refl;
       sender = c;
       counts = rw (countsOf-frame n sender counts b) d;
     }

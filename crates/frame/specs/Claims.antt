@@ -2,10 +2,10 @@
 use mathlib.Core.Path.{_≡_}
 use mathlib.Core.Logic.{_↔_}
 use mathlib.Core.List.{List, [], _∷_}
-use Prim.Native.Nat.{ℕ, _-_, _≤_, _<_}
+use Prim.Native.Nat.{ℕ, _+_, _*_, _-_, _≤_, _<_}
 use lib.ListN.{length, getD, take, replicate}
 use Rattle.lists.specs.Entries.{over}
-use Rattle.frame.specs.Frame.{frame}
+use Rattle.frame.specs.Frame.{body, frame}
 use Rattle.frame.specs.Writing.{writing}
 use Rattle.frame.specs.Reading.{reading}
 
@@ -22,7 +22,7 @@ pub record WellFormed (n : ℕ) (bytes : List ℕ) : Type 0 where
   pub size : length counts ≡ n
   pub counts-in : (k : ℕ) → getD counts k 0 ≤ 4095
   pub own : 1 ≤ getD counts (sender - 1) 0
-  pub is-frame : bytes ≡ frame sender counts
+  pub is-frame : bytes ≡ frame n sender counts
 
 -- a frame is read exactly when it is well formed
 abbrev pub ReadsWellFormed : Type 0
@@ -46,9 +46,32 @@ WriteRestores =
     → writing n (reading n bytes .sender) (take n (reading n bytes .counts)) buffer
     ≡ record { refusal = 0; written = length bytes; buffer = over bytes buffer }
 
--- document 01's example: station 2 of two, vector 1,1
+-- a frame that is written has 3 + 2n bytes
+abbrev pub FrameLength : Type 0
+FrameLength = (n sender : ℕ) (counts buffer : List ℕ) → writing n sender counts buffer .refusal ≡ 0 → writing n sender counts buffer .written ≡ 3 + 2 * n
+
+-- document 01's frame, which has no n
+unfoldable pub oldFrame : ℕ → List ℕ → List ℕ
+oldFrame sender counts = 0x10 ∷ sender ∷ body counts
+
+-- it gives 17, whatever its sender and its counts are and for whichever n it is read
+abbrev pub OldFrames : Type 0
+OldFrames = (n sender : ℕ) (counts : List ℕ) → 2 ≤ n → n ≤ 8 → reading n (oldFrame sender counts) .refusal ≡ 17
+
+-- document 01's example with its n: station 2 of two, vector 1,1
 abbrev pub Example : Type 0
 Example =
-    (writing 2 2 (1 ∷ 1 ∷ []) (9 ∷ 9 ∷ 9 ∷ 9 ∷ 9 ∷ 9 ∷ 9 ∷ [])
-    ≡ record { refusal = 0; written = 6; buffer = 0x10 ∷ 2 ∷ 1 ∷ 0 ∷ 1 ∷ 0 ∷ 9 ∷ [] })
-    × (reading 2 (0x10 ∷ 2 ∷ 1 ∷ 0 ∷ 1 ∷ 0 ∷ []) ≡ record { refusal = 0; sender = 2; counts = 1 ∷ 1 ∷ 0 ∷ 0 ∷ 0 ∷ 0 ∷ 0 ∷ 0 ∷ [] })
+    (writing 2 2 (1 ∷ 1 ∷ []) (9 ∷ 9 ∷ 9 ∷ 9 ∷ 9 ∷ 9 ∷ 9 ∷ 9 ∷ [])
+    ≡ record { refusal = 0; written = 7; buffer = 0x10 ∷ 2 ∷ 2 ∷ 1 ∷ 0 ∷ 1 ∷ 0 ∷ 9 ∷ [] })
+    × (reading 2 (0x10 ∷ 2 ∷ 2 ∷ 1 ∷ 0 ∷ 1 ∷ 0 ∷ []) ≡ record { refusal = 0; sender = 2; counts = 1 ∷ 1 ∷ 0 ∷ 0 ∷ 0 ∷ 0 ∷ 0 ∷ 0 ∷ [] })
+
+-- the refusals of reading in their order: each of these frames is wrong in one way more than the next
+abbrev pub Order : Type 0
+Order =
+    (reading 1 (0x11 ∷ 3 ∷ 3 ∷ 0 ∷ 16 ∷ []) .refusal ≡ 5)
+    × (reading 2 (0x11 ∷ 3 ∷ 3 ∷ 0 ∷ 16 ∷ []) .refusal ≡ 17)
+    × (reading 2 (0x11 ∷ 3 ∷ 3 ∷ 0 ∷ 16 ∷ 1 ∷ 0 ∷ []) .refusal ≡ 18)
+    × (reading 2 (0x10 ∷ 3 ∷ 3 ∷ 0 ∷ 16 ∷ 1 ∷ 0 ∷ []) .refusal ≡ 24)
+    × (reading 2 (0x10 ∷ 3 ∷ 2 ∷ 0 ∷ 16 ∷ 1 ∷ 0 ∷ []) .refusal ≡ 19)
+    × (reading 2 (0x10 ∷ 2 ∷ 2 ∷ 0 ∷ 16 ∷ 1 ∷ 0 ∷ []) .refusal ≡ 20)
+    × (reading 2 (0x10 ∷ 2 ∷ 2 ∷ 255 ∷ 15 ∷ 1 ∷ 0 ∷ []) .refusal ≡ 0)

@@ -1,7 +1,7 @@
--- The LEADER frame: 10 hex, the sender, then n counts of two bytes, low byte first.
+-- The LEADER frame (document 01, with Paper 5 of document 02): 10 hex, the sender, n, then n counts of two bytes, low byte first.
 use mathlib.Core.List.{List, [], _∷_}
 use mathlib.Core.Bool.{Bool, _&&_}
-use Prim.Native.Nat.{ℕ, _-_, _/_, _%_}
+use Prim.Native.Nat.{ℕ, _+_, _*_, _-_, _/_, _%_}
 use lib.ListN.{length, getD}
 use lib.Dec.{leb}
 use Rattle.lists.specs.Test.{allTo}
@@ -11,8 +11,16 @@ unfoldable pub body : List ℕ → List ℕ
 body [] = []
 body (c ∷ cs) = c % 256 ∷ c / 256 ∷ body cs
 
-unfoldable pub frame : ℕ → List ℕ → List ℕ
-frame sender counts = 0x10 ∷ sender ∷ body counts
+unfoldable pub frame : ℕ → ℕ → List ℕ → List ℕ
+frame n sender counts = 0x10 ∷ sender ∷ n ∷ body counts
+
+-- how many bytes stand before the counts
+abbrev pub header : ℕ
+header = 3
+
+-- the length of a frame for n stations
+abbrev pub frameSize : ℕ → ℕ
+frameSize n = header + 2 * n
 
 -- there are 2 to 8 stations
 unfoldable pub stationsIn : ℕ → Bool

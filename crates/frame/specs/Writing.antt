@@ -1,4 +1,4 @@
--- Writing a frame into a buffer ("Write frame" of document 01).
+-- Writing a frame into a buffer ("Write frame" of document 01, with the frame of Paper 5).
 use mathlib.Core.List.{List, [], _∷_}
 use mathlib.Core.Bool.{cond}
 use Prim.Native.Nat.{ℕ}
@@ -18,7 +18,7 @@ writeRefusal n sender counts room =
     ∷ (eqb (length counts) n, 17)
     ∷ (senderIn n sender, 19)
     ∷ (countsIn sender counts, 20)
-    ∷ (leb (length (frame sender counts)) room, 16)
+    ∷ (leb (length (frame n sender counts)) room, 16)
     ∷ [])
 
 -- what writing leaves: the refusal, the length written, and the buffer
@@ -33,11 +33,11 @@ writing n sender counts buffer =
     let r : ℕ = writeRefusal n sender counts (length buffer) in
     record {
       refusal = r;
-      written = cond (eqb r 0) (length (frame sender counts)) 0;
-      buffer = cond (eqb r 0) (over (frame sender counts) buffer) buffer;
+      written = cond (eqb r 0) (length (frame n sender counts)) 0;
+      buffer = cond (eqb r 0) (over (frame n sender counts) buffer) buffer;
     }
 
--- document 01's number and length for each answer
+-- the papers' number and the length for each answer
 abbrev pub refusalOf : Written → ℕ
 refusalOf (Bytes size) = 0
 refusalOf Stations = 5

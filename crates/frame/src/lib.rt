@@ -1,9 +1,9 @@
-// The LEADER frame: written into a lent buffer, read from lent bytes.
+// The LEADER frame: 10 hex, the sender, n and n counts; written into a lent buffer, read from lent bytes.
 ghost use mathlib.Core.Path.{_≡_};
 ghost use Prim.Native.Nat.{_+_, _*_, _<_, _≤_};
 ghost use lib.ListN.{length, replicate};
 ghost use Rattle.lists.specs.Entries.{over};
-ghost use Rattle.frame.specs.Frame.{frame, stationsIn, senderIn, countsIn};
+ghost use Rattle.frame.specs.Frame.{frame, header, frameSize, stationsIn, senderIn, countsIn};
 ghost use Rattle.frame.specs.Reading.{countAt, countsOf, reading};
 ghost use Rattle.frame.specs.Reading.{said as saidRead};
 ghost use Rattle.frame.specs.Writing.{writing, said};
@@ -28,6 +28,7 @@ pub enum Receipt {
     Mark,
     Sender,
     Entry,
+    Count,
 }
 
 // The answer, and the counts: zero beyond n, and zero where refused.
@@ -39,8 +40,11 @@ pub struct Received {
 // The first byte of a frame.
 const MARK: u8 = 0x10;
 
+// How many bytes stand before the counts.
+const HEADER: usize = 3;
+
 // The length of a frame for 2, 3, .., 8 stations.
-const LENGTHS: [usize; 7] = [6, 8, 10, 12, 14, 16, 18];
+const LENGTHS: [usize; 7] = [7, 9, 11, 13, 15, 17, 19];
 
 // Whether there are 2 to 8 stations.
 fn stations_in(n: u8) -> bool
@@ -73,36 +77,39 @@ fn counts_in(sender: u8, counts: &[u16]) -> bool
 // The length of a frame for n stations.
 fn frame_length(n: u8) -> usize
     requires { ⌜ (2 ≤ n) × (n ≤ 8) ⌝ }
-    ensures { λ r. ⌜ r ≡ 2 + 2 * n ⌝ }
+    ensures { λ r. ⌜ r ≡ frameSize n ⌝ }
 {
     LENGTHS[(n - 2) as usize]
 }
 
-// Lays the frame of sender and counts over the front of the buffer.
-fn put_frame(sender: u8, counts: &[u16], buffer: &mut [u8])
-    requires { ⌜ 2 + 2 * length (now counts) ≤ length (now buffer) ⌝ }
-    ensures { λ r. ⌜ now (buffer .exit) ≡ over (frame sender (now (counts .entry))) (now (buffer .entry)) ⌝ }
+// Lays the frame of n, sender and counts over the front of the buffer.
+fn put_frame(n: u8, sender: u8, counts: &[u16], buffer: &mut [u8])
+    requires { ⌜ frameSize (length (now counts)) ≤ length (now buffer) ⌝ }
+    ensures { λ r. ⌜ now (buffer .exit) ≡ over (frame n sender (now (counts .entry))) (now (buffer .entry)) ⌝ }
 {
     buffer[0] = MARK;
     buffer[1] = sender;
+    buffer[2] = n;
     for k in 0..counts.len() {
         let count = counts[k];
-        buffer[2 + 2 * k] = (count % 256) as u8;
-        buffer[3 + 2 * k] = (count / 256) as u8;
+        let at = HEADER + 2 * k;
+        buffer[at] = (count % 256) as u8;
+        buffer[at + 1] = (count / 256) as u8;
     }
 }
 
 // The count at place k, from 0: low byte, high byte.
 fn count_at(bytes: &[u8], k: usize) -> u16
-    requires { ⌜ 3 + 2 * k < length (now bytes) ⌝ }
+    requires { ⌜ header + 2 * k + 1 < length (now bytes) ⌝ }
     ensures { λ r. ⌜ r ≡ countAt (now (bytes .entry)) k ⌝ }
 {
-    bytes[2 + 2 * k] as u16 + 256 * bytes[3 + 2 * k] as u16
+    let at = HEADER + 2 * k;
+    bytes[at] as u16 + 256 * bytes[at + 1] as u16
 }
 
 // The n counts of the bytes, and zeros beyond them.
 fn counts_of(n: u8, bytes: &[u8]) -> [u16; 8]
-    requires { ⌜ (n ≤ 8) × (length (now bytes) ≡ 2 + 2 * n) ⌝ }
+    requires { ⌜ (n ≤ 8) × (length (now bytes) ≡ frameSize n) ⌝ }
     ensures { λ r. ⌜ r ≡ over (countsOf n (now (bytes .entry))) (replicate 8 0) ⌝ }
 {
     let mut counts = [0u16; 8];
@@ -142,7 +149,7 @@ pub fn write(n: u8, sender: u8, counts: &[u16], buffer: &mut [u8]) -> Written
     if buffer.len() < size {
         return Written::Space;
     }
-    put_frame(sender, counts, buffer);
+    put_frame(n, sender, counts, buffer);
     Written::Bytes(size)
 }
 
@@ -160,6 +167,10 @@ pub fn read(n: u8, bytes: &[u8]) -> Received
         return refused(Receipt::Mark);
     }
     let sender = bytes[1];
+    let written = bytes[2];
+    if written != n {
+        return refused(Receipt::Count);
+    }
     if !sender_in(n, sender) {
         return refused(Receipt::Sender);
     }

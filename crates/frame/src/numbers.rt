@@ -1,4 +1,4 @@
-// Document 01's numbers and values of what writing and reading answer.
+// The papers' numbers, and the values, of what writing and reading answer.
 ghost use mathlib.Core.Path.{_≡_};
 ghost use Rattle.frame.specs.Writing.{lengthOf};
 ghost use Rattle.frame.specs.Writing.{refusalOf as writeRefusalOf};
@@ -46,6 +46,7 @@ pub fn read_refusal(r: Receipt) -> u64
         Receipt::Mark => 18,
         Receipt::Sender => 19,
         Receipt::Entry => 20,
+        Receipt::Count => 24,
     }
 }
 
@@ -60,5 +61,6 @@ pub fn sender_of(r: Receipt) -> u8
         Receipt::Mark => 0,
         Receipt::Sender => 0,
         Receipt::Entry => 0,
+        Receipt::Count => 0,
     }
 }

@@ -1,14 +1,13 @@
 -- The function read meets its contract.
 use mathlib.Core.Path.{_≡_, sym, _∙_}
 use mathlib.Core.Bool.{true}
-use Prim.Native.Nat.{_+_, _*_}
 use native.Mathlib.Omega.{arith}
 use lib.ListN.{length, take}
 use borrow.Author.Needs.{needs}
 use borrow.Author.Tests.{eq-eqb, ne-eqb}
 use Rattle.lists.proofs.Entries.{take-over}
 use Rattle.lists.proofs.Bools.{holds, fails}
-use Rattle.frame.specs.Frame.{stationsIn, senderIn, countsIn}
+use Rattle.frame.specs.Frame.{frameSize, stationsIn, senderIn, countsIn}
 use Rattle.frame.specs.Reading.{countsOf, senderOf, reading}
 use Rattle.frame.proofs.Body.{length-countsOf}
 use Rattle.frame.proofs.Ranges.{stations-range, sender-range}
@@ -18,24 +17,24 @@ use Rattle.frame.proofs.read.Tie as tie
 stations : (c : tie.Else1) → stationsIn (c .before .before .before .args .n) ≡ true
 stations c = holds (c .before .stations-in .ensures) (c .if1 .left)
 
-size : (c : tie.Else2) → let a = c .before .before .before .before .before .args in length (a .bytes .now) ≡ 2 + 2 * a .n
+size : (c : tie.Else2) → let a = c .before .before .before .before .before .args in length (a .bytes .now) ≡ frameSize (a .n)
 size c = c .if2 .left ∙ c .before .frame-length .ensures
 
 sender :
-    (c : tie.Else4)
-    → let a = c .before .before .before .before .before .before .before .before .before .before .args in
+    (c : tie.Else5)
+    → let a = c .before .before .before .before .before .before .before .before .before .before .before .before .args in
     senderIn (a .n) (senderOf (a .bytes .now)) ≡ true
-sender c = holds (c .before .sender-in .ensures) (c .if4 .left)
+sender c = holds (c .before .sender-in .ensures) (c .if5 .left)
 
 front :
     (c : tie.After-counts-of)
-    → let a = c .before .before .before .before .before .before .before .before .before .before .before .args in
+    → let a = c .before .before .before .before .before .before .before .before .before .before .before .before .before .args in
     take (a .n) (c .counts-of .result) ≡ countsOf (a .n) (a .bytes .now)
 front c = rw (c .counts-of .ensures) (take-over _ _ _ (length-countsOf _ _))
 
 counts :
     (c : tie.After-counts-in)
-    → let a = c .before .before .before .before .before .before .before .before .before .before .before .before .before .args in
+    → let a = c .before .before .before .before .before .before .before .before .before .before .before .before .before .before .before .args in
     c .counts-in .result ≡ countsIn (senderOf (a .bytes .now)) (countsOf (a .n) (a .bytes .now))
 counts c = rw (front (c .before .before)) at (c .counts-in .ensures)
 
@@ -68,17 +67,32 @@ returns-4 c =
       stations (two .before .before),
       eq-eqb _ _ (size two),
       eq-eqb _ _ (three .if3 .left),
-      fails (c .before .before .sender-in .ensures) (c .before .if4 .taken),
+      ne-eqb _ _ (c .before .if4 .taken),
+    )
+
+returns-5 : tie.Need-returns-5
+unfolding reading
+returns-5 c =
+    let four = c .before .before .before in
+    let three = four .before .before .before in
+    let two = three .before .before in
+    rw (
+      c .refused5 .ensures,
+      stations (two .before .before),
+      eq-eqb _ _ (size two),
+      eq-eqb _ _ (three .if3 .left),
+      eq-eqb _ _ (four .if4 .left),
+      fails (c .before .before .sender-in .ensures) (c .before .if5 .taken),
     )
 
 counts-of-requires : tie.Need-counts-of-requires
 counts-of-requires c κs =
-    let two = c .before .before .before .before .before in
+    let two = c .before .before .before .before .before .before .before in
     (stations-range _ .0 (stations (two .before .before)) .1, size two)
 
 array-share-prefix-counts : tie.Need-array-share-prefix-counts
 array-share-prefix-counts c =
-    let r = stations-range _ .0 (stations (c .before .before .before .before .before .before .before .before)) in
+    let r = stations-range _ .0 (stations (c .before .before .before .before .before .before .before .before .before .before)) in
     omega (arith, c .counts-of .ok)
 
 slice-aggregate-counts-in : tie.Need-slice-aggregate-counts-in
@@ -87,33 +101,37 @@ slice-aggregate-counts-in c = rw (front (c .before)) (sym (length-countsOf _ _))
 counts-in-requires : tie.Need-counts-in-requires
 counts-in-requires c κs = rw (front (c .before), length-countsOf) (sender-range _ _ .0 (sender (c .before .before)))
 
-returns-5 : tie.Need-returns-5
-unfolding reading
-returns-5 c =
-    let four = c .before .before .before .before .before in
-    let three = four .before .before .before in
-    let two = three .before .before in
-    rw (
-      c .refused5 .ensures,
-      stations (two .before .before),
-      eq-eqb _ _ (size two),
-      eq-eqb _ _ (three .if3 .left),
-      sender four,
-      fails (counts (c .before .before)) (c .before .if5 .taken),
-    )
-
 returns-6 : tie.Need-returns-6
 unfolding reading
 returns-6 c =
-    let four = c .before .before .before .before in
+    let five = c .before .before .before .before .before in
+    let four = five .before .before in
+    let three = four .before .before .before in
+    let two = three .before .before in
+    rw (
+      c .refused6 .ensures,
+      stations (two .before .before),
+      eq-eqb _ _ (size two),
+      eq-eqb _ _ (three .if3 .left),
+      eq-eqb _ _ (four .if4 .left),
+      sender five,
+      fails (counts (c .before .before)) (c .before .if6 .taken),
+    )
+
+returns-7 : tie.Need-returns-7
+unfolding reading
+returns-7 c =
+    let five = c .before .before .before .before in
+    let four = five .before .before in
     let three = four .before .before .before in
     let two = three .before .before in
     rw (
       stations (two .before .before),
       eq-eqb _ _ (size two),
       eq-eqb _ _ (three .if3 .left),
-      sender four,
-      holds (counts (c .before)) (c .if5 .left),
+      eq-eqb _ _ (four .if4 .left),
+      sender five,
+      holds (counts (c .before)) (c .if6 .left),
       c .before .before .before .counts-of .ensures,
     )
 
@@ -131,13 +149,16 @@ read-spec =
     (λ c κs. search needs)
     returns-3
     (λ c. search needs)
-    (λ c κs. search needs)
+    (λ c. search needs)
     (λ c κs. search needs)
     returns-4
+    (λ c κs. search needs)
+    (λ c κs. search needs)
+    returns-5
     counts-of-requires
     array-share-prefix-counts
     slice-aggregate-counts-in
     counts-in-requires
     (λ c κs. search needs)
-    returns-5
-    returns-6)
+    returns-6
+    returns-7)

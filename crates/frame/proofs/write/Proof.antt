@@ -31,8 +31,8 @@ counts c = holds (c .before .counts-in .ensures) (c .if4 .left)
 size :
     (c : tie.After-frame-length)
     → let a = c .before .before .before .before .before .before .before .before .before .before .args in
-    length (frame (a .sender) (a .counts .now)) ≡ c .frame-length .result
-size c = length-frame _ _ ∙ omega arith
+    length (frame (a .n) (a .sender) (a .counts .now)) ≡ c .frame-length .result
+size c = length-frame _ _ _ ∙ omega arith
 
 returns : tie.Need-returns
 unfolding writing
