@@ -2,10 +2,11 @@
 use mathlib.Core.Path.{refl}
 use Rattle.lists.specs.Join.{joinTo}
 use Rattle.election.specs.Errors.{errors, prints, DarkTwice, Decimals, FreshWhole, SetUpWhole, EightWhole}
-use Rattle.election.specs.Listing.{digits, countOf, vector, status, leaderOf, vectorOf, stationLine, stationLines, dark, allTrust, aLeader, upAmong, verdict, verdictLine, listingOf, reported, endLine, reports, output}
+use Rattle.election.specs.Listing.{status, leaderOf, vectorOf, stationLine, stationLines, dark, allTrust, aLeader, upAmong, verdict, verdictLine, listingOf, reported, endLine, reports, output}
+use Rattle.text.specs.Numbers.{digits, countOf, vector}
 use Rattle.election.specs.Ranked.{preferences, changes}
 use Rattle.election.specs.Rehearsals.{rehearsals}
-use Rattle.election.specs.Text.{text}
+use Rattle.text.specs.Quoted.{text}
 use Rattle.election.proofs.Opened.{rules}
 use Rattle.election.proofs.Ruled.{ruled, HoldRuled}
 

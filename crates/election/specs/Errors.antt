@@ -4,10 +4,11 @@ use mathlib.Core.List.{List, [], _∷_, _++_, map}
 use mathlib.Core.Bool.{Bool, true, false}
 use Prim.Native.Nat.{ℕ}
 use lib.ListN.{replicate}
-use Rattle.election.specs.Listing.{decimal, output}
+use Rattle.election.specs.Listing.{output}
+use Rattle.text.specs.Numbers.{decimal}
 use Rattle.election.specs.Rows.{Row, Printed, InLast, Hold, leaders, trusted, timeouts, kept, known, sentCount, delayOf, carried, setUp, start, crash, link, run, lose, report, started, at20, startedSlow}
 use Rattle.election.specs.Schedule.{schedule}
-use Rattle.election.specs.Text.{text}
+use Rattle.text.specs.Quoted.{text}
 use Rattle.election.specs.declared.System.{System}
 
 -- all that is printed for a schedule with four reports and a refusal: an up and a down station, each verdict but dark, numbers of one to three digits

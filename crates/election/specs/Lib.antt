@@ -17,7 +17,6 @@ pub mod Onward
 pub mod History
 pub mod Claims
 -- Tables that are computed: the rehearsals, the ranks, the findings of the search, the errors ruled out, and soundness breached clause by clause
-pub mod Text
 pub mod Rows
 pub mod Rehearsals
 pub mod Ranked

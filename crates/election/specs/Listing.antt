@@ -1,7 +1,7 @@
 -- The listing, and what the rehearsal program prints ("Frame and listing" of document 01, with Paper 2 of document 02), as bytes.
 use mathlib.Core.List.{List, [], _∷_, _++_}
 use mathlib.Core.Bool.{Bool, true, false, cond, not, _&&_}
-use Prim.Native.Nat.{ℕ, zero, suc, _+_, _/_, _%_}
+use Prim.Native.Nat.{ℕ, zero, suc, _+_}
 use lib.ListN.{length, getD, drop}
 use lib.Dec.{leb, ltb, eqb}
 use Rattle.lists.specs.Entries.{over}
@@ -9,6 +9,7 @@ use Rattle.lists.specs.First.{firstFailed}
 use Rattle.lists.specs.Fold.{each}
 use Rattle.lists.specs.Join.{joinTo}
 use Rattle.lists.specs.Test.{allTo}
+use Rattle.text.specs.Numbers.{decimal, newline, named, vector}
 use Rattle.fit.specs.Fit.{within}
 use Rattle.station.specs.declared.Station.{Station}
 use Rattle.election.specs.Commands.{Result, command, refusalOf, lengthOf}
@@ -19,19 +20,6 @@ use Rattle.election.specs.declared.Answer.{Answer}
 use Rattle.election.specs.declared.System.{System}
 use Rattle.election.specs.declared.Verdict.{Verdict}
 use Rattle.election.specs.declared.Verdict.the-variants.{Dark, Agreed, AgreedDark, Split}
-
--- decimal digits of a number below 10^fuel
-unfoldable pub digits : ℕ → ℕ → List ℕ
-digits zero x = []
-digits (suc fuel) x =
-    let high : List ℕ = digits fuel (x / 10) in
-    cond (ltb x 10) ((48 + x) ∷ []) (high ++ ((48 + x % 10) ∷ []))
-
-abbrev pub decimal : ℕ → List ℕ
-decimal x = digits 20 x
-
-abbrev pub newline : List ℕ
-newline = 0x0a ∷ []
 
 -- "tick ", " up", " down", " leader ", " inc ", " rec ", " sent ", " kept ", "-", "dark", "agreed ", "agreed dark ", "split", "end ", "refused ", " at "
 abbrev pub tickWord : List ℕ
@@ -81,18 +69,6 @@ refusedWord = 114 ∷ 101 ∷ 102 ∷ 117 ∷ 115 ∷ 101 ∷ 100 ∷ 32 ∷ []
 
 abbrev pub atWord : List ℕ
 atWord = 32 ∷ 97 ∷ 116 ∷ 32 ∷ []
-
--- a word and a number
-abbrev pub named : List ℕ → ℕ → List ℕ
-named word x = word ++ decimal x
-
--- the count at k, after a comma unless it is the first
-unfoldable pub countOf : ℕ → ℕ → List ℕ
-countOf k x = cond (eqb k 0) [] (44 ∷ []) ++ decimal x
-
--- the first n counts, with commas between them
-unfoldable pub vector : ℕ → List ℕ → List ℕ
-vector n v = joinTo n (λ k. countOf k (getD v k 0))
 
 -- the number of a station, and up or down
 unfoldable pub status : ℕ → Bool → List ℕ

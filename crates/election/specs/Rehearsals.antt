@@ -2,7 +2,7 @@
 use mathlib.Core.List.{List, [], _∷_, _++_}
 use Prim.Native.Nat.{ℕ}
 use Rattle.election.specs.Rows.{Row, Printed, InLast, Hold, leaders, trusted, timeouts, count, setUp, start, crash, link, run, report, started, at20}
-use Rattle.election.specs.Text.{text}
+use Rattle.text.specs.Quoted.{text}
 
 -- the listing of document 01, and the last line
 abbrev pub printed : List ℕ

@@ -13,7 +13,7 @@ use Rattle.election.specs.declared.Refusal.the-variants.{NotSetUp, Unsound, Buf
 use Rattle.election.specs.declared.System.{System}
 use Rattle.election.specs.Sound.{sound}
 use Rattle.election.specs.Listing.{Listed, listing, listed, said}
-use Rattle.listing.specs.Wrote.{Wrote}
+use Rattle.text.specs.Wrote.{Wrote}
 
 -- what is left where the three tests come out so
 abbrev outcome : Bool → Bool → Bool → List ℕ → List ℕ → Listed

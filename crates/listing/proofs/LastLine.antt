@@ -4,8 +4,9 @@ use mathlib.Core.Logic.{_≢_}
 use mathlib.Core.List.{List, _++_, append-assoc}
 use Prim.Native.Nat.{ℕ}
 use borrow.Author.Tests.{eq-eqb, ne-eqb}
-use Rattle.election.specs.Listing.{decimal, newline, endWord, refusedWord, atWord, endLine}
-use Rattle.listing.specs.Wrote.{Wrote}
+use Rattle.election.specs.Listing.{endWord, refusedWord, atWord, endLine}
+use Rattle.text.specs.Numbers.{decimal, newline}
+use Rattle.text.specs.Wrote.{Wrote}
 
 pub end-line : (refusal offset : ℕ) → refusal ≡ 0 → endWord ++ decimal offset ++ newline ≡ endLine refusal offset
 unfolding endLine

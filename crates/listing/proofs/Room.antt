@@ -7,28 +7,16 @@ use lib.Dec.{eqb}
 use lib.ListN.{length, getD, length-append}
 use Rattle.station.specs.declared.Station.{Station}
 use Rattle.election.specs.System.{noStation}
-use Rattle.election.specs.Listing.{decimal, newline, upWord, downWord, noneWord, endWord, refusedWord, atWord, countOf, vector, status, leaderOf, vectorOf, stationLine, stationLines, verdict, verdictLine, listingOf, endLine}
+use Rattle.election.specs.Listing.{upWord, downWord, noneWord, endWord, refusedWord, atWord, status, leaderOf, vectorOf, stationLine, stationLines, verdict, verdictLine, listingOf, endLine}
+use Rattle.text.specs.Numbers.{decimal, newline, countOf, vector}
 use Rattle.lists.specs.Join.{joinTo}
 use Rattle.listing.specs.Pieces.{who, known, ends}
 use Rattle.election.specs.declared.Verdict.{Verdict}
 use Rattle.election.specs.declared.Verdict.the-variants.{Dark, Agreed, AgreedDark, Split}
 use Rattle.listing.specs.Room.{ListingRoom, EndRoom}
-use Rattle.listing.proofs.Digits.{length-decimal}
+use Rattle.text.proofs.Digits.{length-decimal}
+use Rattle.text.proofs.Room.{either, joined, vector-room}
 use Rattle.listing.proofs.Same.{line-is, size-is}
-
--- one of two lists is at most as long as the longer
-either : (b : Bool) (x y : List ℕ) (most : ℕ) → length x ≤ most → length y ≤ most → length (cond b x y) ≤ most
-either true x y most a b = a
-either false x y most a b = b
-
-joined : (f : ℕ → List ℕ) (most n : ℕ) → ((k : ℕ) → length (f k) ≤ most) → length (joinTo n f) ≤ n * most
-unfolding joinTo
-joined f most zero h = omega arith
-joined f most (suc n) h = omega (arith, length-append (joinTo n f) (f n), joined f most n h, h n)
-
-counts-room : (n : ℕ) (v : List ℕ) → length (vector n v) ≤ n * 21
-unfolding vector countOf
-counts-room n v = joined (λ k. countOf k (getD v k 0)) 21 n (λ k. simp length-append (omega (arith, either (eqb k 0) [] (44 ∷ []) 1 (omega arith) (omega arith), length-decimal (getD v k 0))))
 
 who-room : (p : ℕ) (x : Station) → length (who p x) ≤ 60
 unfolding who status leaderOf
@@ -40,7 +28,7 @@ known-room : (n : ℕ) (x : Station) → n ≤ 8 → length (known n x) ≤ 200
 unfolding known vectorOf
 known-room n x h =
     simp length-append
-    (omega (arith, length-decimal (x .incarnation), either (x .up) (vector n (x .recovered)) noneWord 168 (omega (arith, counts-room n (x .recovered))) (omega arith)))
+    (omega (arith, length-decimal (x .incarnation), either (x .up) (vector n (x .recovered)) noneWord 168 (omega (arith, vector-room n (x .recovered))) (omega arith)))
 
 ends-room : (sent : ℕ) (x : Station) → length (ends sent x) ≤ 60
 unfolding ends

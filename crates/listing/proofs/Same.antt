@@ -8,10 +8,11 @@ use lib.ListN.{length, length-append}
 use Rattle.station.specs.declared.Station.{Station}
 use Rattle.election.specs.declared.Searched.{Searched}
 use Rattle.election.specs.declared.Verdict.{Verdict}
-use Rattle.election.specs.Listing.{decimal, newline, tickWord, incWord, recWord, sentWord, keptWord, noneWord, named, vector, status, leaderOf, vectorOf, stationLine, stationLines, verdictLine, listingOf}
+use Rattle.election.specs.Listing.{tickWord, incWord, recWord, sentWord, keptWord, noneWord, status, leaderOf, vectorOf, stationLine, stationLines, verdictLine, listingOf}
+use Rattle.text.specs.Numbers.{decimal, newline, named, vector}
 use Rattle.election.specs.Search.{searched}
 use Rattle.listing.specs.Pieces.{who, known, ends, listingWith}
-use Rattle.listing.proofs.Parts.{room-first}
+use Rattle.text.proofs.Parts.{room-first}
 
 -- the fields of a line, in three parts
 group : (a b c d e f g : List ℕ) → a ++ b ++ c ++ d ++ e ++ f ++ g ≡ a ++ b ++ (c ++ d) ++ (e ++ (f ++ g))

@@ -1,4 +1,3 @@
 -- The parts of a listing that the code writes in one go.
 pub mod Pieces
 pub mod Room
-pub mod Wrote

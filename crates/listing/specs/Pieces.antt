@@ -2,7 +2,8 @@
 use mathlib.Core.List.{List, _++_}
 use Prim.Native.Nat.{ℕ}
 use Rattle.station.specs.declared.Station.{Station}
-use Rattle.election.specs.Listing.{decimal, newline, tickWord, incWord, sentWord, keptWord, named, status, leaderOf, vectorOf, stationLines, verdictLine}
+use Rattle.election.specs.Listing.{tickWord, incWord, sentWord, keptWord, status, leaderOf, vectorOf, stationLines, verdictLine}
+use Rattle.text.specs.Numbers.{decimal, newline, named}
 use Rattle.election.specs.declared.Verdict.{Verdict}
 
 -- who it is, what it knows, what it sent and keeps

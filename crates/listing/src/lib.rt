@@ -13,7 +13,6 @@ use soundness::sound;
 pub mod rules;
 pub mod search;
 mod sizes;
-mod text;
 
 // Writes the listing of a system into the front of the buffer, or leaves the buffer as it is.
 pub fn listing(s: System, buffer: &mut [u8]) -> Answer

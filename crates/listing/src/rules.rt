@@ -2,41 +2,19 @@
 ghost use Prim.Native.Nat.{_+_, _≤_};
 ghost use lib.ListN.{length};
 ghost use mathlib.Core.Bool.{cond};
-ghost use Rattle.election.specs.Listing.{upWord, downWord, countOf, vector, status, leaderOf, vectorOf, stationLine, stationLines, verdictLine, listingOf};
+ghost use Rattle.election.specs.Listing.{upWord, downWord, status, leaderOf, vectorOf, stationLine, stationLines, verdictLine, listingOf};
 ghost use Rattle.listing.specs.Pieces.{who, known, ends, listingWith};
-ghost use Rattle.listing.specs.Wrote.{Wrote};
+ghost use Rattle.text.specs.Wrote.{Wrote};
 use crate::search::search;
-use crate::text::put;
-use crate::text::put_decimal;
-use crate::text::put_last;
-use crate::text::put_named;
 use election::Verdict;
 use station::Station;
+use text::rules::put;
+use text::rules::put_counts;
+use text::rules::put_decimal;
+use text::rules::put_last;
+use text::rules::put_named;
 
 pub mod ending;
-
-// Writes the count at k, after a comma unless it is the first.
-fn put_count(k: usize, x: u16, buffer: &mut [u8]) -> usize
-    requires { ⌜ length (countOf k x) ≤ length (now buffer) ⌝ }
-    ensures { λ r. ⌜ Wrote (countOf k x) (now (buffer .entry)) r (now (buffer .exit)) ⌝ }
-{
-    if k == 0 {
-        return put_decimal(x as u64, buffer);
-    }
-    put_named(b",", x as u64, buffer)
-}
-
-// Writes the first n counts.
-fn put_counts(n: usize, v: [u16; 8], buffer: &mut [u8]) -> usize
-    requires { ⌜ (n ≤ 8) × (length (vector n v) ≤ length (now buffer)) ⌝ }
-    ensures { λ r. ⌜ Wrote (vector n v) (now (buffer .entry)) r (now (buffer .exit)) ⌝ }
-{
-    let mut at = 0;
-    for k in 0..n {
-        at += put_count(k, v[k], &mut buffer[at..]);
-    }
-    at
-}
 
 // Writes whether a station is up.
 fn put_up(up: bool, buffer: &mut [u8]) -> usize

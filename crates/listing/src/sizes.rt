@@ -3,11 +3,12 @@ ghost use mathlib.Core.Path.{_≡_};
 ghost use Prim.Native.Nat.{_+_, _≤_};
 ghost use lib.ListN.{length};
 ghost use Rattle.listing.specs.Pieces.{who, known, listingWith};
-ghost use Rattle.election.specs.Listing.{countOf, vector, stationLine, stationLines, verdictLine};
-use crate::text::decimal_size;
+ghost use Rattle.election.specs.Listing.{stationLine, stationLines, verdictLine};
+ghost use Rattle.text.specs.Numbers.{countOf, vector};
 use election::System;
 use election::Verdict;
 use station::Station;
+use text::rules::decimal_size;
 
 // The length of the count at k.
 fn count_size(k: usize, x: u16) -> usize

@@ -21,7 +21,7 @@ use Rattle.election.specs.declared.System.{System}
 use Rattle.election.proofs.GoingOn.{go-sound, full-further, toPrint, prints-all, prints-more, prints-last}
 use Rattle.layout.specs.Layout.{systemOf}
 use Rattle.layout.specs.declared.Layout.{Layout}
-use Rattle.listing.specs.Wrote.{Wrote}
+use Rattle.text.specs.Wrote.{Wrote}
 use Rattle.listing.proofs.Room.{end-room}
 use Rattle.simulator.specs.Gone.{Gone, gone, fullOf, refusalOf, said}
 use Rattle.simulator.specs.declared.rules.Onward.{Onward}

@@ -33,8 +33,8 @@ use Rattle.election.proofs.KeepsSound.{keeps-sound}
 use Rattle.layout.specs.Layout.{systemOf}
 use Rattle.layout.specs.declared.Layout.{Layout}
 use Rattle.layout.proofs.Stores.{Wide, withStations, withDelays, withUsed, withRanks, Clearing, lost-read}
-use Rattle.listing.specs.Wrote.{Wrote}
-use Rattle.listing.proofs.Parts.{wrote-none, wrote-part, wrote-length}
+use Rattle.text.specs.Wrote.{Wrote}
+use Rattle.text.proofs.Parts.{wrote-none, wrote-part, wrote-length}
 use Rattle.decision.specs.Decided.{Sees, Turned, Taken, decided, meaning}
 use Rattle.simulator.specs.Gone.{Gone, leaving, gone, said}
 use Rattle.simulator.specs.declared.rules.Stop.the-variants.{Full, End, Refused}

@@ -4,10 +4,10 @@ ghost use Prim.Native.Nat.{_≤_};
 ghost use lib.ListN.{length};
 ghost use Rattle.election.specs.Commands.{numberOf};
 ghost use Rattle.election.specs.Listing.{endLine};
-ghost use Rattle.listing.specs.Wrote.{Wrote};
-use crate::text::put_last;
-use crate::text::put_named;
+ghost use Rattle.text.specs.Wrote.{Wrote};
 use election::Refusal;
+use text::rules::put_last;
+use text::rules::put_named;
 
 // The papers' number of a refusal.
 pub fn number_of(why: Refusal) -> u8

@@ -3,7 +3,7 @@ use native.Mathlib.Omega.{arith}
 use lib.ListN.{length-append}
 use borrow.Author.Needs.{needs}
 use Rattle.listing.specs.Pieces.{known, ends}
-use Rattle.listing.proofs.Parts.{wrote-part, room-at, room-part, ends-in, room-two}
+use Rattle.text.proofs.Parts.{wrote-part, room-at, room-part, ends-in, room-two}
 use Rattle.listing.proofs.Same.{line-is, room-line}
 use Rattle.listing.proofs.rules.put_line.Tie as tie
 use Rattle.listing.proofs.rules.put_line.Statement.{statement}

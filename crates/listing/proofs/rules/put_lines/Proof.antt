@@ -7,8 +7,8 @@ use borrow.Author.Needs.{needs}
 use Rattle.election.specs.System.{noStation}
 use Rattle.election.specs.Listing.{stationLine, stationLines}
 use Rattle.lists.specs.Join.{joinTo}
-use Rattle.listing.specs.Wrote.{Wrote}
-use Rattle.listing.proofs.Parts.{join-none, join-turn, join-room, room-at, room-part, ends-in, wrote-length, wrote-part}
+use Rattle.text.specs.Wrote.{Wrote}
+use Rattle.text.proofs.Parts.{join-none, join-turn, join-room, room-at, room-part, ends-in, wrote-length, wrote-part}
 use Rattle.listing.proofs.rules.put_lines.Tie as tie
 use Rattle.listing.proofs.rules.put_lines.Statement.{statement}
 

@@ -1,7 +1,7 @@
 -- The function rules::put_listing meets its contract.
 use borrow.Author.Needs.{needs}
 use Rattle.election.specs.Listing.{stationLines, verdictLine}
-use Rattle.listing.proofs.Parts.{wrote-part, room-at, room-part, ends-in, room-two}
+use Rattle.text.proofs.Parts.{wrote-part, room-at, room-part, ends-in, room-two}
 use Rattle.listing.proofs.Same.{room-tick}
 use Rattle.listing.proofs.rules.put_listing.Tie as tie
 use Rattle.listing.proofs.rules.put_listing.Statement.{statement}

@@ -2,8 +2,9 @@
 use native.Mathlib.Omega.{arith}
 use borrow.Author.Tests.{not-true, not-false}
 use borrow.Author.Needs.{needs}
-use Rattle.election.specs.Listing.{vector, vectorOf}
-use Rattle.listing.proofs.Parts.{wrote-part, room-at, room-part, ends-in}
+use Rattle.election.specs.Listing.{vectorOf}
+use Rattle.text.specs.Numbers.{vector}
+use Rattle.text.proofs.Parts.{wrote-part, room-at, room-part, ends-in}
 use Rattle.listing.proofs.rules.put_rec.Tie as tie
 use Rattle.listing.proofs.rules.put_rec.Statement.{statement}
 

@@ -3,7 +3,7 @@ use native.Mathlib.Omega.{arith}
 use lib.ListN.{length-append}
 use borrow.Author.Needs.{needs}
 use Rattle.election.specs.Listing.{status}
-use Rattle.listing.proofs.Parts.{wrote-part, room-at, room-part, ends-in}
+use Rattle.text.proofs.Parts.{wrote-part, room-at, room-part, ends-in}
 use Rattle.listing.proofs.rules.put_status.Tie as tie
 use Rattle.listing.proofs.rules.put_status.Statement.{statement}
 

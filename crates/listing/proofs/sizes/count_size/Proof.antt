@@ -2,7 +2,7 @@
 use native.Mathlib.Omega.{arith}
 use borrow.Author.Tests.{eq-eqb, ne-eqb}
 use borrow.Author.Needs.{needs}
-use Rattle.election.specs.Listing.{countOf}
+use Rattle.text.specs.Numbers.{countOf}
 use Rattle.listing.proofs.sizes.count_size.Tie as tie
 use Rattle.listing.proofs.sizes.count_size.Statement.{statement}
 

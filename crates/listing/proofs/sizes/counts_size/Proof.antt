@@ -4,9 +4,9 @@ use Prim.Native.Nat.{_*_, _-_, _≤_}
 use native.Mathlib.Omega.{arith}
 use lib.ListN.{length, getD}
 use borrow.Author.Needs.{needs}
-use Rattle.election.specs.Listing.{countOf, vector}
+use Rattle.text.specs.Numbers.{countOf, vector}
 use Rattle.lists.specs.Join.{joinTo}
-use Rattle.listing.proofs.Parts.{join-size}
+use Rattle.text.proofs.Parts.{join-size}
 use Rattle.listing.proofs.sizes.counts_size.Tie as tie
 use Rattle.listing.proofs.sizes.counts_size.Statement.{statement}
 

@@ -7,7 +7,7 @@ use borrow.Author.Needs.{needs}
 use Rattle.election.specs.System.{noStation}
 use Rattle.election.specs.Listing.{stationLine, stationLines}
 use Rattle.lists.specs.Join.{joinTo}
-use Rattle.listing.proofs.Parts.{join-size}
+use Rattle.text.proofs.Parts.{join-size}
 use Rattle.listing.proofs.sizes.lines_size.Tie as tie
 use Rattle.listing.proofs.sizes.lines_size.Statement.{statement}
 

@@ -21,7 +21,7 @@ use Rattle.election.specs.declared.System.{System}
 use Rattle.layout.specs.Layout.{systemOf}
 use Rattle.layout.specs.declared.Layout.{Layout}
 use Rattle.layout.proofs.Stores.{Wide, Clearing, clearing-none, clearing-turn}
-use Rattle.listing.proofs.Parts.{room-part}
+use Rattle.text.proofs.Parts.{room-part}
 use Rattle.listing.proofs.Room.{listing-room}
 use Rattle.decision.specs.Decided.{Turned, Taken, decided, meaning}
 use Rattle.decision.specs.declared.Decision.{Decision}

@@ -1,6 +1,7 @@
 -- The function rules::ending::write_end meets its contract.
-use Rattle.listing.proofs.Parts.{wrote-part, room-first, room-at, room-part, ends-in}
-use Rattle.election.specs.Listing.{decimal, newline, refusedWord, atWord}
+use Rattle.text.proofs.Parts.{wrote-part, room-first, room-at, room-part, ends-in}
+use Rattle.election.specs.Listing.{refusedWord, atWord}
+use Rattle.text.specs.Numbers.{decimal, newline}
 use Prim.Native.Nat.{_≤_}
 use mathlib.Core.List.{_++_}
 use Rattle.listing.proofs.LastLine.{end-line, refused-line, wrote-as}

@@ -1,15 +1,15 @@
--- The function text::put_digits meets its contract.
+-- The function rules::put_digits meets its contract.
 use Prim.Native.Nat.{ℕ, _<_, _/_}
 use native.Mathlib.Omega.{arith}
 use borrow.Author.Needs.{needs}
 use borrow.Fn.Kinds.{In}
 use borrow.Fn.PlainCycle.{Measures, is, falls, and}
-use Rattle.listing.proofs.Digits.{size-one, size-next, length-decimal, wrote-one, wrote-next}
-use Rattle.listing.proofs.text.+put_digits.{statement}
-use Rattle.listing.proofs.text.+put_digits.Tie.{close}
-use Rattle.listing.proofs.text.put_digits.Reads as put-digits
-use Rattle.listing.proofs.text.put_digits.Kinds as put-digits-kinds
-use Rattle.listing.proofs.text.+put_digits.Lts-put_digits as put-digits-lts
+use Rattle.text.proofs.Digits.{size-one, size-next, length-decimal, wrote-one, wrote-next}
+use Rattle.text.proofs.rules.+put_digits.{statement}
+use Rattle.text.proofs.rules.+put_digits.Tie.{close}
+use Rattle.text.proofs.rules.put_digits.Reads as put-digits
+use Rattle.text.proofs.rules.put_digits.Kinds as put-digits-kinds
+use Rattle.text.proofs.rules.+put_digits.Lts-put_digits as put-digits-lts
 
 abbrev μ-put-digits : Measures 1 put-digits-kinds.ps ℕ
 μ-put-digits κs a = a .0

@@ -4,12 +4,12 @@ use Prim.Native.Nat.{_-_, _≤_}
 use native.Mathlib.Omega.{arith}
 use lib.ListN.{getD}
 use borrow.Author.Needs.{needs}
-use Rattle.election.specs.Listing.{countOf, vector}
+use Rattle.text.specs.Numbers.{countOf, vector}
 use Rattle.lists.specs.Join.{joinTo}
-use Rattle.listing.specs.Wrote.{Wrote}
-use Rattle.listing.proofs.Parts.{join-none, join-turn, join-room, room-at, room-part, ends-in, wrote-length, wrote-part}
-use Rattle.listing.proofs.rules.put_counts.Tie as tie
-use Rattle.listing.proofs.rules.put_counts.Statement.{statement}
+use Rattle.text.specs.Wrote.{Wrote}
+use Rattle.text.proofs.Parts.{join-none, join-turn, join-room, room-at, room-part, ends-in, wrote-length, wrote-part}
+use Rattle.text.proofs.rules.put_counts.Tie as tie
+use Rattle.text.proofs.rules.put_counts.Statement.{statement}
 
 abbrev Inv-loop : tie.InvT-loop
 Inv-loop n buffer₀ v at₀ k₀ buffer at k = (k ≤ n) × Wrote (joinTo k (λ i. countOf i (getD v i 0))) buffer₀ at buffer

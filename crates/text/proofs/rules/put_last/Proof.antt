@@ -1,11 +1,11 @@
--- The function text::put_last meets its contract.
+-- The function rules::put_last meets its contract.
 use native.Mathlib.Omega.{arith}
 use lib.ListN.{length-append}
 use borrow.Author.Needs.{needs}
-use Rattle.election.specs.Listing.{newline}
-use Rattle.listing.proofs.Parts.{wrote-part, room-at, room-part, ends-in}
-use Rattle.listing.proofs.text.put_last.Tie as tie
-use Rattle.listing.proofs.text.put_last.Statement.{statement}
+use Rattle.text.specs.Numbers.{newline}
+use Rattle.text.proofs.Parts.{wrote-part, room-at, room-part, ends-in}
+use Rattle.text.proofs.rules.put_last.Tie as tie
+use Rattle.text.proofs.rules.put_last.Statement.{statement}
 
 put-named-requires : tie.Need-put-named-requires
 put-named-requires c κs = simp length-append (omega (arith, simp length-append at (c .before .before .before .pre)))

@@ -1,9 +1,9 @@
--- The function text::put_decimal meets its contract.
-use Rattle.listing.proofs.Digits.{size-one, wrote-one}
+-- The function rules::put_decimal meets its contract.
+use Rattle.text.proofs.Digits.{size-one, wrote-one}
 use native.Mathlib.Omega.{arith}
 use borrow.Author.Needs.{needs}
-use Rattle.listing.proofs.text.put_decimal.Statement.{statement}
-use Rattle.listing.proofs.text.put_decimal.Tie as tie
+use Rattle.text.proofs.rules.put_decimal.Statement.{statement}
+use Rattle.text.proofs.rules.put_decimal.Tie as tie
 
 slice-write-buffer : tie.Need-slice-write-buffer
 slice-write-buffer c = omega (arith, size-one (c .before .before .args .x) (c .if1 .taken))

@@ -8,9 +8,9 @@ use native.Mathlib.Omega.{arith}
 use lib.Dec.{ltb}
 use lib.ListN.{length, set, length-append}
 use borrow.Author.Tests.{lt-ltb, le-ltb}
-use Rattle.election.specs.Listing.{digits, decimal}
-use Rattle.listing.specs.Wrote.{Wrote}
-use Rattle.listing.proofs.Parts.{wrote-none, wrote-byte}
+use Rattle.text.specs.Numbers.{digits, decimal}
+use Rattle.text.specs.Wrote.{Wrote}
+use Rattle.text.proofs.Parts.{wrote-none, wrote-byte}
 
 -- a list of at most k bytes and one byte more
 pub length-digits : (fuel x : ℕ) → length (digits fuel x) ≤ fuel

@@ -1,15 +1,15 @@
--- The function text::decimal_size meets its contract.
+-- The function rules::decimal_size meets its contract.
 use Prim.Native.Nat.{ℕ, _<_}
 use native.Mathlib.Omega.{arith}
 use borrow.Author.Needs.{needs}
 use borrow.Fn.Kinds.{In}
 use borrow.Fn.PlainCycle.{Measures, is, falls, and}
-use Rattle.listing.proofs.Digits.{size-one, size-next, length-decimal}
-use Rattle.listing.proofs.text.+decimal_size.{statement}
-use Rattle.listing.proofs.text.+decimal_size.Tie.{close}
-use Rattle.listing.proofs.text.decimal_size.Reads as decimal-size
-use Rattle.listing.proofs.text.decimal_size.Kinds as decimal-size-kinds
-use Rattle.listing.proofs.text.+decimal_size.Lts-decimal_size as decimal-size-lts
+use Rattle.text.proofs.Digits.{size-one, size-next, length-decimal}
+use Rattle.text.proofs.rules.+decimal_size.{statement}
+use Rattle.text.proofs.rules.+decimal_size.Tie.{close}
+use Rattle.text.proofs.rules.decimal_size.Reads as decimal-size
+use Rattle.text.proofs.rules.decimal_size.Kinds as decimal-size-kinds
+use Rattle.text.proofs.rules.+decimal_size.Lts-decimal_size as decimal-size-lts
 
 abbrev μ-decimal-size : Measures 0 decimal-size-kinds.ps ℕ
 μ-decimal-size κs a = a .0

@@ -2,9 +2,9 @@
 use native.Mathlib.Omega.{arith}
 use borrow.Author.Tests.{eq-eqb, ne-eqb}
 use borrow.Author.Needs.{needs}
-use Rattle.election.specs.Listing.{countOf}
-use Rattle.listing.proofs.rules.put_count.Tie as tie
-use Rattle.listing.proofs.rules.put_count.Statement.{statement}
+use Rattle.text.specs.Numbers.{countOf}
+use Rattle.text.proofs.rules.put_count.Tie as tie
+use Rattle.text.proofs.rules.put_count.Statement.{statement}
 
 put-decimal-requires : tie.Need-put-decimal-requires
 unfolding countOf

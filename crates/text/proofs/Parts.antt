@@ -11,7 +11,7 @@ use borrow.Rule.Slice.PartMut.{putMid}
 use Rattle.lists.specs.Entries.{over}
 use Rattle.lists.proofs.Entries.{over-nil, over-snoc, length-over}
 use Rattle.lists.specs.Join.{joinTo}
-use Rattle.listing.specs.Wrote.{Wrote}
+use Rattle.text.specs.Wrote.{Wrote}
 
 -- an entry more at the place after what was written
 pub wrote-byte : {l old new : List ℕ} {at : ℕ} (v : ℕ) → Wrote l old at new → at < length old → Wrote (l ++ (v ∷ [])) old (at + 1) (set new at v)

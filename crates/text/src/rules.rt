@@ -1,13 +1,13 @@
-// Words and decimal numbers, written at the front of a buffer. The buffer has room: the caller has counted.
+// Words, decimal numbers and counts, written at the front of a buffer. The buffer has room: the caller has counted.
 ghost use mathlib.Core.Path.{_≡_};
 ghost use mathlib.Core.List.{_++_};
 ghost use Prim.Native.Nat.{_≤_};
 ghost use lib.ListN.{length};
-ghost use Rattle.election.specs.Listing.{decimal, newline};
-ghost use Rattle.listing.specs.Wrote.{Wrote};
+ghost use Rattle.text.specs.Numbers.{decimal, newline, countOf, vector};
+ghost use Rattle.text.specs.Wrote.{Wrote};
 
 // Writes a word.
-pub(crate) fn put(word: &[u8], buffer: &mut [u8]) -> usize
+pub fn put(word: &[u8], buffer: &mut [u8]) -> usize
     requires { ⌜ length (now word) ≤ length (now buffer) ⌝ }
     ensures { λ r. ⌜ Wrote (now (word .entry)) (now (buffer .entry)) r (now (buffer .exit)) ⌝ }
 {
@@ -20,7 +20,7 @@ pub(crate) fn put(word: &[u8], buffer: &mut [u8]) -> usize
 }
 
 // The length of a number in decimal digits.
-pub(crate) fn decimal_size(x: u64) -> usize
+pub fn decimal_size(x: u64) -> usize
     ensures { λ r. ⌜ (r ≡ length (decimal x)) × (r ≤ 20) ⌝ }
 {
     if x < 10 { 1 } else { decimal_size(x / 10) + 1 }
@@ -41,7 +41,7 @@ fn put_digits(x: u64, buffer: &mut [u8]) -> usize
 }
 
 // Writes a number in decimal digits. Most numbers of a listing have one, which needs no call.
-pub(crate) fn put_decimal(x: u64, buffer: &mut [u8]) -> usize
+pub fn put_decimal(x: u64, buffer: &mut [u8]) -> usize
     requires { ⌜ length (decimal x) ≤ length (now buffer) ⌝ }
     ensures { λ r. ⌜ Wrote (decimal x) (now (buffer .entry)) r (now (buffer .exit)) ⌝ }
 {
@@ -53,7 +53,7 @@ pub(crate) fn put_decimal(x: u64, buffer: &mut [u8]) -> usize
 }
 
 // Writes a word and a number after it.
-pub(crate) fn put_named(word: &[u8], x: u64, buffer: &mut [u8]) -> usize
+pub fn put_named(word: &[u8], x: u64, buffer: &mut [u8]) -> usize
     requires { ⌜ length (now word ++ decimal x) ≤ length (now buffer) ⌝ }
     ensures { λ r. ⌜ Wrote (now (word .entry) ++ decimal x) (now (buffer .entry)) r (now (buffer .exit)) ⌝ }
 {
@@ -62,10 +62,33 @@ pub(crate) fn put_named(word: &[u8], x: u64, buffer: &mut [u8]) -> usize
 }
 
 // Writes a word, a number and the end of the line.
-pub(crate) fn put_last(word: &[u8], x: u64, buffer: &mut [u8]) -> usize
+pub fn put_last(word: &[u8], x: u64, buffer: &mut [u8]) -> usize
     requires { ⌜ length (now word ++ decimal x ++ newline) ≤ length (now buffer) ⌝ }
     ensures { λ r. ⌜ Wrote (now (word .entry) ++ decimal x ++ newline) (now (buffer .entry)) r (now (buffer .exit)) ⌝ }
 {
     let at = put_named(word, x, buffer);
     at + put(b"\n", &mut buffer[at..])
+}
+
+// Writes the count at k, after a comma unless it is the first.
+fn put_count(k: usize, x: u16, buffer: &mut [u8]) -> usize
+    requires { ⌜ length (countOf k x) ≤ length (now buffer) ⌝ }
+    ensures { λ r. ⌜ Wrote (countOf k x) (now (buffer .entry)) r (now (buffer .exit)) ⌝ }
+{
+    if k == 0 {
+        return put_decimal(x as u64, buffer);
+    }
+    put_named(b",", x as u64, buffer)
+}
+
+// Writes the first n counts.
+pub fn put_counts(n: usize, v: [u16; 8], buffer: &mut [u8]) -> usize
+    requires { ⌜ (n ≤ 8) × (length (vector n v) ≤ length (now buffer)) ⌝ }
+    ensures { λ r. ⌜ Wrote (vector n v) (now (buffer .entry)) r (now (buffer .exit)) ⌝ }
+{
+    let mut at = 0;
+    for k in 0..n {
+        at += put_count(k, v[k], &mut buffer[at..]);
+    }
+    at
 }

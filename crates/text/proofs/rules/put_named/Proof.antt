@@ -1,10 +1,10 @@
--- The function text::put_named meets its contract.
+-- The function rules::put_named meets its contract.
 use native.Mathlib.Omega.{arith}
 use lib.ListN.{length-append}
 use borrow.Author.Needs.{needs}
-use Rattle.listing.proofs.Parts.{wrote-part, room-at, room-part, ends-in}
-use Rattle.listing.proofs.text.put_named.Tie as tie
-use Rattle.listing.proofs.text.put_named.Statement.{statement}
+use Rattle.text.proofs.Parts.{wrote-part, room-at, room-part, ends-in}
+use Rattle.text.proofs.rules.put_named.Tie as tie
+use Rattle.text.proofs.rules.put_named.Statement.{statement}
 
 put-requires : tie.Need-put-requires
 put-requires c κs = omega (arith, simp length-append at (c .before .before .before .pre))

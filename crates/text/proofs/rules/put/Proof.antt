@@ -1,13 +1,13 @@
--- The function text::put meets its contract.
+-- The function rules::put meets its contract.
 use mathlib.Core.Path.{_≡_, refl}
 use Prim.Native.Nat.{_-_, _≤_}
 use native.Mathlib.Omega.{arith}
 use lib.ListN.{length, take, length-set}
 use borrow.Author.Needs.{needs}
-use Rattle.listing.specs.Wrote.{Wrote}
-use Rattle.listing.proofs.Parts.{wrote-none, wrote-take, wrote-whole}
-use Rattle.listing.proofs.text.put.Tie as tie
-use Rattle.listing.proofs.text.put.Statement.{statement}
+use Rattle.text.specs.Wrote.{Wrote}
+use Rattle.text.proofs.Parts.{wrote-none, wrote-take, wrote-whole}
+use Rattle.text.proofs.rules.put.Tie as tie
+use Rattle.text.proofs.rules.put.Statement.{statement}
 
 abbrev Inv-loop : tie.InvT-loop
 Inv-loop word buffer₀ i₀ buffer i = (i ≤ length word) × (length buffer ≡ length buffer₀) × Wrote (take i word) buffer₀ i buffer

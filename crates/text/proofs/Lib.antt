@@ -1,0 +1,4 @@
+-- Laws of text that is laid over the front of a buffer, piece by piece.
+pub mod Digits
+pub mod Parts
+pub mod Room
