@@ -9,9 +9,7 @@ use borrow.Author.Tests.{lt-ltb}
 use lib.IntN.{ℤ}
 use lib.ListN.{length, take, drop, length-drop, length-append}
 use lib.Seq.{take-all, take-append-seam, drop-append-seam, drop-drop, length-take-le}
-use Rattle.lists.specs.Entries.{over}
 use Rattle.lists.proofs.Bools.{cond-yes, cond-no}
-use Rattle.lists.proofs.Entries.{take-over}
 use Rattle.election.specs.Listing.{endLine, output}
 use Rattle.election.specs.Onward.{goOn}
 use Rattle.election.specs.Schedule.{mostBytes, schedule}
@@ -22,10 +20,12 @@ use Rattle.election.proofs.GoingOn.{go-sound, full-further, toPrint, prints-all
 use Rattle.layout.specs.Layout.{systemOf}
 use Rattle.layout.specs.declared.Layout.{Layout}
 use Rattle.text.specs.Wrote.{Wrote}
+use Rattle.text.proofs.Parts.{wrote-front, wrote-inside}
 use Rattle.listing.proofs.Room.{end-room}
 use Rattle.simulator.specs.Gone.{Gone, gone, fullOf, refusalOf, said}
 use Rattle.simulator.specs.declared.rules.Onward.{Onward}
-use Rattle.rehearse.specs.Moves.{Next, Taken, Enough}
+use Rattle.rehearse.specs.Moves.{Next, Enough}
+use Rattle.calls.specs.Calls.{Taken}
 
 -- above 65,536 bytes the last line is all
 long-output : (bytes : List ℕ) → mostBytes < length bytes → output bytes ≡ endLine 21 0
@@ -70,15 +70,6 @@ module _ {bytes : List ℕ} {done : ℕ} (text more : List ℕ) (l : Left bytes 
   left-some : (now : ℕ) → now < done + length text → now < length (output bytes)
   left-some now short = omega (arith, length-drop done (output bytes), ap length (l .is), length-append text more)
 
--- what was written stands at the front of the buffer
-module _ {text old new : List ℕ} {size : ℕ} (w : Wrote text old size new) where
-  front : take size new ≡ text
-  front = ap (take size) (w .bytes) ∙ take-over size text old (sym (w .count))
-
-  pub written-within : size ≤ length new
-  unfolding over
-  written-within = omega (arith, w .count, ap length (w .bytes), length-append text (drop (length text) old))
-
 -- every last line has room in the program's buffer
 pub line-room : (refusal offset room : ℕ) → room ≡ 65536 → length (endLine refusal offset) ≤ room
 line-room refusal offset room e = omega (arith, end-room refusal offset)
@@ -86,10 +77,10 @@ line-room refusal offset room e = omega (arith, end-room refusal offset)
 -- a line that is all that is left, and was written into the buffer
 module _ {bytes : List ℕ} {done : ℕ} {line : List ℕ} (l : Left bytes done line) {old new : List ℕ} {size : ℕ} (w : Wrote line old size new) where
   pub next-line : Next bytes done (take size new)
-  next-line = subst (Next bytes done) (sym (front w)) (left-next {bytes = bytes} {done = done} line [] (rw append-nil l))
+  next-line = subst (Next bytes done) (sym (wrote-front w)) (left-next {bytes = bytes} {done = done} line [] (rw append-nil l))
 
   pub line-taken : (b : Bool) (put : ℤ) (now : ℕ) → Taken b put now (done + length (take size new)) → Taken b put now (length (output bytes))
-  line-taken b put now = subst (Taken b put now) (omega (arith, ap length (front w), length-drop done (output bytes), ap length (l .is), l .inside))
+  line-taken b put now = subst (Taken b put now) (omega (arith, ap length (wrote-front w), length-drop done (output bytes), ap length (l .is), l .inside))
 
 -- where the program goes on with a schedule: a sound system, and what is left is what is to be printed from there on
 pub record Standing (bytes : List ℕ) (done : ℕ) (buffer : List ℕ) (s : Layout) (at : ℕ) : Type 0 where
@@ -125,14 +116,14 @@ module _ {bytes : List ℕ} {done : ℕ} {old : List ℕ} {s : Layout} {at : ℕ
   left-listed = subst (λ (g : Gone). Left bytes done (listed ++ onwards g bytes)) (sym e) (subst (Left bytes done) (prints (systemOf s) at bytes old) (st .left))
 
   pub next-listed : Next bytes done (take (r .size) new)
-  next-listed = subst (Next bytes done) (sym (front wrote)) (left-next listed (onwards (said r new) bytes) left-listed)
+  next-listed = subst (Next bytes done) (sym (wrote-front wrote)) (left-next listed (onwards (said r new) bytes) left-listed)
 
   pub some-left : (put : ℤ) (now : ℕ) → Taken false put now (done + length (take (r .size) new)) → Taken false put now (length (output bytes))
-  some-left put now (none, short) = (none, left-some listed (onwards (said r new) bytes) left-listed now (omega (arith, ap length (front wrote))))
+  some-left put now (none, short) = (none, left-some listed (onwards (said r new) bytes) left-listed now (omega (arith, ap length (wrote-front wrote))))
 
   -- they are few enough bytes to be counted
   pub counted : length bytes ≤ mostBytes → length new ≡ length old → done + length (take (r .size) new) ≤ 65536 * 65537
-  counted short same = omega (arith, st .few, st .within, st .room, written-within wrote, length-take-le (r .size) new (written-within wrote))
+  counted short same = omega (arith, st .few, st .within, st .room, wrote-inside wrote, length-take-le (r .size) new (wrote-inside wrote))
 
   -- where it stopped for want of room, it came further
   pub leads-on : fullOf (r .stop) ≡ true → (at < r .at) × (r .at < length bytes)
@@ -143,7 +134,7 @@ module _ {bytes : List ℕ} {done : ℕ} {old : List ℕ} {s : Layout} {at : ℕ
   -- once they were taken, the program goes on from such a stop, and at another the last line is left
   module _ (now : ℕ) (all : now ≡ done + length (take (r .size) new)) where
     then-left : Left bytes now (onwards (said r new) bytes)
-    then-left = left-after listed (onwards (said r new) bytes) left-listed now (omega (arith, ap length (front wrote)))
+    then-left = left-after listed (onwards (said r new) bytes) left-listed now (omega (arith, ap length (wrote-front wrote)))
 
     pub line-left : fullOf (r .stop) ≡ false → Left bytes now (endLine (refusalOf (r .stop)) (r .at))
     unfolding onwards
@@ -156,6 +147,6 @@ module _ {bytes : List ℕ} {done : ℕ} {old : List ℕ} {s : Layout} {at : ℕ
           ok = rw (sym (ap (λ (g : Gone). g .system) e)) at (go-sound true (length old) (systemOf s) at bytes (st .ok));
           room = same ∙ st .room;
           within = omega (arith, leads-on t .1);
-          few = omega (arith, st .few, st .room, written-within wrote, length-take-le (r .size) new (written-within wrote), leads-on t .0);
+          few = omega (arith, st .few, st .room, wrote-inside wrote, length-take-le (r .size) new (wrote-inside wrote), leads-on t .0);
           left = subst (Left bytes now) (cond-yes _ _ t) then-left;
         }

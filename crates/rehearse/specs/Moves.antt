@@ -4,21 +4,13 @@ use mathlib.Core.Path.{_≡_}
 use mathlib.Core.List.{List}
 use mathlib.Core.Bool.{Bool, true, false}
 use Prim.Native.Nat.{ℕ, _<_, _≤_}
-use lib.IntN.{ℤ, pos, negsuc}
+use lib.IntN.{ℤ, pos}
 use lib.ListN.{length, take, drop}
+use Rattle.calls.specs.Calls.{Failed, Taken}
 use Rattle.election.specs.Listing.{output}
 use Rattle.election.specs.Schedule.{mostBytes}
 use Rattle.rehearse.specs.declared.Ran.{Ran}
 use Rattle.rehearse.specs.declared.Ran.the-variants.{Printed, NotRead, NotPrinted}
-
--- a call failed: it answered -1
-abbrev pub Failed : ℤ → Type 0
-Failed answer = answer ≡ negsuc 0
-
--- how many bytes a call moved, none where it failed
-abbrev pub moved : ℤ → ℕ
-moved (pos k) = k
-moved (negsuc k) = 0
 
 -- all was read that matters: the buffer is full, or the last read found the end of the input
 abbrev pub Whole : ℤ → ℕ → ℕ → Type 0
@@ -38,11 +30,6 @@ Reading false got size room = Failed got
 -- the text comes next in what is to be printed for the schedule
 abbrev pub Next : List ℕ → ℕ → List ℕ → Type 0
 Next bytes done text = take (length text) (drop done (output bytes)) ≡ text
-
--- all bytes up to a place were taken, or the last write took none and some are left
-abbrev pub Taken : Bool → ℤ → ℕ → ℕ → Type 0
-Taken true put done all = done ≡ all
-Taken false put done all = (moved put ≡ 0) × (done < all)
 
 -- how the program ended: all was read and printed; a read failed, and nothing was printed; or all was read, and a write took none of what was left
 abbrev pub Ended : Ran → ℤ → ℕ → List ℕ → ℤ → ℕ → Type 0

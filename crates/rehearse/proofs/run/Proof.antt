@@ -1,5 +1,6 @@
 -- The function run meets its contract.
-use Rattle.rehearse.proofs.Moving.{taken-all, taken-some, read-whole, read-failed}
+use Rattle.rehearse.proofs.Moving.{read-whole, read-failed}
+use Rattle.calls.proofs.Calls.{taken-all, taken-some}
 use lib.ListN.{length}
 use lib.Seq.{length-take-le}
 use mathlib.Core.Path.{sym}

@@ -7,8 +7,9 @@ use lib.Seq.{length-take-le}
 use borrow.Author.Needs.{needs}
 use Rattle.lists.proofs.Bools.{holds, fails}
 use Rattle.election.proofs.InitialSound.{fresh-sound}
-use Rattle.rehearse.proofs.Moving.{taken-all, taken-some}
-use Rattle.rehearse.proofs.Printed.{Standing, left-long, left-first, written-within, line-room, next-line, line-taken, wrote, next-listed, some-left, counted, leads-on, line-left, stands}
+use Rattle.calls.proofs.Calls.{taken-all, taken-some}
+use Rattle.text.proofs.Parts.{wrote-inside}
+use Rattle.rehearse.proofs.Printed.{Standing, left-long, left-first, line-room, next-line, line-taken, wrote, next-listed, some-left, counted, leads-on, line-left, stands}
 use Rattle.rehearse.proofs.output.rehearse.Statement.{statement}
 use Rattle.rehearse.proofs.output.rehearse.Tie as tie
 
@@ -23,7 +24,7 @@ print-requires c κs =
     let start = c .before .before .before .before .before .before .before .before .before in
     let wrote = c .before .before .before .before .write-end in
     let line = left-long (start .args .bytes .now) (start .args .done .now) (start .pre) (omega (arith, c .before .before .before .before .before .before .if1 .taken)) in
-    let inside = written-within (wrote .ensures) in
+    let inside = wrote-inside (wrote .ensures) in
     (next-line line (wrote .ensures), omega (arith, start .pre, inside, length-take-le (wrote .result) (wrote .last .1 .1 .0) inside, wrote .kept .1 .1 .0, c .before .before .before .before .before .before .before .large-buffer .ensures))
 
 returns : tie.Need-returns Inv-loop μ-loop
@@ -49,7 +50,7 @@ array-share-prefix-buffer-2 c =
     let loop = c .before .before .before .loop in
     let gone = c .before .go-on in
     let new = gone .last .1 .1 .1 .1 .0 in
-    written-within (wrote (loop .inv) new (gone .result) (gone .ensures))
+    wrote-inside (wrote (loop .inv) new (gone .result) (gone .ensures))
 
 print-requires-2 : tie.Need-print-requires-2 Inv-loop μ-loop
 print-requires-2 c κs =
@@ -79,7 +80,7 @@ print-requires-3 c κs =
     let wrote = c .before .before .before .before .write-end2 in
     let line = rw (sym (c .before .before .before .before .before .before .refusal-of .ensures)) at (line-left (loop .inv) new (gone .result) (gone .ensures) now taken (fails (c .before .before .before .before .before .before .before .before .is-full .ensures) (c .before .before .before .before .before .before .before .if3 .taken))) in
     let few = counted (loop .inv) new (gone .result) (gone .ensures) (c .before .before .before .before .before .before .before .before .before .before .before .before .before .before .before .before .before .before .before .if1 .left) (gone .kept .1 .1 .1 .1 .0) in
-    let inside = written-within (wrote .ensures) in
+    let inside = wrote-inside (wrote .ensures) in
     let next = next-line line (wrote .ensures) in
     (search (needs, next), omega (arith, taken, few, inside, length-take-le (wrote .result) (wrote .last .1 .1 .0) inside, wrote .kept .1 .1 .0, gone .kept .1 .1 .1 .1 .0, loop .inv .room))
 
@@ -120,8 +121,8 @@ rehearse-spec =
     (λ c κs. search needs)
     (λ c. search needs)
     (λ c κs. line-room _ _ _ (sym (c .before .before .large-buffer .ensures)))
-    (λ c. written-within (c .before .write-end .ensures))
-    (λ c. sym (length-take-le _ _ (written-within (c .before .before .write-end .ensures))))
+    (λ c. wrote-inside (c .before .write-end .ensures))
+    (λ c. sym (length-take-le _ _ (wrote-inside (c .before .before .write-end .ensures))))
     print-requires
     returns
     (λ c κs. search needs)
@@ -136,8 +137,8 @@ rehearse-spec =
     (λ c κs. search needs)
     (λ c. sym (c .before .before .before .before .before .before .before .before .before .before .go-on .kept .1 .1 .1 .1 .0 ∙ c .before .before .before .before .before .before .before .before .before .before .before .before .loop .inv .room))
     (λ c κs. line-room _ _ _ (c .before .before .before .before .before .before .before .before .before .before .go-on .kept .1 .1 .1 .1 .0 ∙ c .before .before .before .before .before .before .before .before .before .before .before .before .loop .inv .room))
-    (λ c. omega (arith, written-within (c .before .write-end2 .ensures)))
-    (λ c. search (needs, length-take-le _ (c .before .before .write-end2 .last .1 .1 .0) (written-within (c .before .before .write-end2 .ensures))))
+    (λ c. omega (arith, wrote-inside (c .before .write-end2 .ensures)))
+    (λ c. search (needs, length-take-le _ (c .before .before .write-end2 .last .1 .1 .0) (wrote-inside (c .before .before .write-end2 .ensures))))
     print-requires-3
     returns-3
     loop-less

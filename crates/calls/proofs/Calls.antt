@@ -1,0 +1,66 @@
+-- Laws of what the calls of read and write answered.
+use mathlib.Core.Path.{_≡_, refl, sym, ap, subst, _∙_}
+use mathlib.Core.Bool.{Bool, true, false, not, true≢false}
+use Prim.Native.Nat.{ℕ, _<_, _≤_, _^_}
+use native.Mathlib.Omega.{arith}
+use borrow.Author.Tests.{ltb-true, leb-true, leb-false}
+use borrow.Author.Needs.{sfits-of}
+use lib.IntN.{ℤ, pos, negsuc}
+use lib.Signed.{ltZ, leZ, mag}
+use mir.Facts.{toZ-ofZ}
+use mir.Syntax.{w64}
+use mir.Val.{ofZ, toZ}
+use Rattle.io.specs.Counts.{clamped}
+use Rattle.libc.specs.Io.{Moved}
+use Rattle.calls.specs.Calls.{moved, Failed, Taken}
+
+-- what is counted is what was moved
+pub counts : (n : ℕ) (z : ℤ) → Moved n z → clamped z n ≡ moved z
+counts n (pos k) m = omega (arith, m)
+counts n (negsuc k) m = refl
+
+pub moved-inside : (n : ℕ) (z : ℤ) → Moved n z → moved z ≤ n
+moved-inside n (pos k) m = m
+moved-inside n (negsuc k) m = omega arith
+
+-- what a call answered, from the tests of its bits
+pub none-came : (n : ℕ) (z : ℤ) → Moved n z → ofZ w64 z ≡ 0 → z ≡ pos 0
+none-came n (pos k) m e = ap pos e
+none-came n (negsuc k) m e = absurd (omega (arith, m, e))
+
+pub back : (z : ℤ) → mag z < 2 ^ 63 → toZ w64 (ofZ w64 z) ≡ z
+back z f = toZ-ofZ {w = w64} {z = z} (sfits-of f)
+
+pub failed : (n : ℕ) (z : ℤ) → Moved n z → mag z < 2 ^ 63 → ltZ (toZ w64 (ofZ w64 z)) (pos 0) ≡ true → Failed z
+failed n (pos k) m f e = absurd (omega (arith, ltb-true k 0 (ap (λ (y : ℤ). ltZ y (pos 0)) (sym (back (pos k) f)) ∙ e)))
+failed n (negsuc k) m f e = ap negsuc m
+
+pub some-came : (n : ℕ) (z : ℤ) → Moved n z → ltZ (toZ w64 (ofZ w64 z)) (pos 0) ≡ false → (ofZ w64 z ≡ 0 → ⊥) → 0 < moved z
+some-came n (pos k) m e ne = omega (arith, ne)
+some-came n (negsuc k) m e ne = absurd (true≢false (subst (λ (j : ℕ). ltZ (toZ w64 (ofZ w64 (negsuc j))) (pos 0) ≡ false) m e))
+
+pub none-went : (z : ℤ) → mag z < 2 ^ 63 → leZ (toZ w64 (ofZ w64 z)) (pos 0) ≡ true → moved z ≡ 0
+none-went (pos k) f e = omega (arith, leb-true k 0 (ap (λ (y : ℤ). leZ y (pos 0)) (sym (back (pos k) f)) ∙ e))
+none-went (negsuc k) f e = refl
+
+pub some-went : (z : ℤ) → mag z < 2 ^ 63 → leZ (toZ w64 (ofZ w64 z)) (pos 0) ≡ false → 0 < moved z
+some-went (pos k) f e = omega (arith, leb-false k 0 (ap (λ (y : ℤ). leZ y (pos 0)) (sym (back (pos k) f)) ∙ e))
+some-went (negsuc k) f e = absurd (true≢false (ap (λ (y : ℤ). leZ y (pos 0)) (sym (back (negsuc k) f)) ∙ e))
+
+-- a write took none, and some are left
+pub stuck : (put : ℤ) (done all : ℕ) → moved put ≡ 0 → done < all → Taken false put done all
+stuck put done all none some = (none, some)
+
+-- what a test of whether all was taken tells, and of whether no read failed
+pub taken-all : (b : Bool) (put : ℤ) {done all : ℕ} → Taken b put done all → not b ≡ false → done ≡ all
+taken-all true put t e = t
+taken-all false put t e = absurd (true≢false e)
+
+pub taken-some : (b : Bool) (put : ℤ) {done all : ℕ} → Taken b put done all → not b ≡ true → Taken false put done all
+taken-some true put t e = absurd (true≢false (sym e))
+taken-some false put t e = t
+
+-- a read that did not fail and brought nothing found the end
+pub ended : (z : ℤ) → ltZ (toZ w64 (ofZ w64 z)) (pos 0) ≡ false → mag z < 2 ^ 63 → moved z ≡ 0 → z ≡ pos 0
+ended (pos k) e f m = ap pos m
+ended (negsuc k) e f m = absurd (true≢false (ap (λ (y : ℤ). ltZ y (pos 0)) (sym (back (negsuc k) f)) ∙ e))

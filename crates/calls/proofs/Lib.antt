@@ -1,0 +1,2 @@
+-- Laws of what calls of the system answered.
+pub mod Calls

@@ -1,0 +1,19 @@
+-- What the calls of read and write answered: `put` is what the last write answered, `done` how many bytes were taken so far of what is to be printed.
+use mathlib.Core.Path.{_≡_}
+use mathlib.Core.Bool.{Bool, true, false}
+use Prim.Native.Nat.{ℕ, _<_}
+use lib.IntN.{ℤ, pos, negsuc}
+
+-- a call failed: it answered -1
+abbrev pub Failed : ℤ → Type 0
+Failed answer = answer ≡ negsuc 0
+
+-- how many bytes a call moved, none where it failed
+abbrev pub moved : ℤ → ℕ
+moved (pos k) = k
+moved (negsuc k) = 0
+
+-- all bytes up to a place were taken, or the last write took none and some are left
+abbrev pub Taken : Bool → ℤ → ℕ → ℕ → Type 0
+Taken true put done all = done ≡ all
+Taken false put done all = (moved put ≡ 0) × (done < all)

@@ -1,0 +1,2 @@
+-- What calls of the system answered.
+pub mod Calls

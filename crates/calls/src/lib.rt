@@ -1,0 +1,1 @@
+// What calls of the system answered: definitions and laws alone.
