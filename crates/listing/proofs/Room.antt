@@ -1,15 +1,14 @@
 -- Every listing of at most eight stations, and every last line, has at most 2,700 bytes.
-use mathlib.Core.List.{List, [], _∷_, _++_}
-use mathlib.Core.Bool.{Bool, true, false, cond}
-use Prim.Native.Nat.{ℕ, zero, suc, _+_, _*_, _≤_}
+use mathlib.Core.List.{List, _++_}
+use mathlib.Core.Bool.{cond}
+use Prim.Native.Nat.{ℕ, _+_, _*_, _≤_}
 use native.Mathlib.Omega.{arith}
 use lib.Dec.{eqb}
 use lib.ListN.{length, getD, length-append}
 use Rattle.station.specs.declared.Station.{Station}
 use Rattle.election.specs.System.{noStation}
 use Rattle.election.specs.Listing.{upWord, downWord, noneWord, endWord, refusedWord, atWord, status, leaderOf, vectorOf, stationLine, stationLines, verdict, verdictLine, listingOf, endLine}
-use Rattle.text.specs.Numbers.{decimal, newline, countOf, vector}
-use Rattle.lists.specs.Join.{joinTo}
+use Rattle.text.specs.Numbers.{decimal, newline, vector}
 use Rattle.listing.specs.Pieces.{who, known, ends}
 use Rattle.election.specs.declared.Verdict.{Verdict}
 use Rattle.election.specs.declared.Verdict.the-variants.{Dark, Agreed, AgreedDark, Split}

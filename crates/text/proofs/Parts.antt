@@ -1,5 +1,5 @@
 -- Laws of a list laid over the front of a buffer, piece by piece.
-use mathlib.Core.Path.{_≡_, refl, sym, _∙_}
+use mathlib.Core.Path.{_≡_, refl, sym, ap, _∙_}
 use mathlib.Core.List.{List, [], _∷_, _++_, append-assoc, append-nil}
 use Prim.Native.Nat.{ℕ, zero, suc, _+_, _-_, _^_, _<_, _≤_}
 use native.Mathlib.Decide.{decLt}
@@ -9,7 +9,7 @@ use lib.ListN.{length, getD, set, take, drop, length-append, length-drop, drop-o
 use lib.Seq.{drop-drop, drop-at, take-at, take-suc, take-all}
 use borrow.Rule.Slice.PartMut.{putMid}
 use Rattle.lists.specs.Entries.{over}
-use Rattle.lists.proofs.Entries.{over-nil, over-snoc, length-over}
+use Rattle.lists.proofs.Entries.{over-nil, over-snoc, length-over, take-over}
 use Rattle.lists.specs.Join.{joinTo}
 use Rattle.text.specs.Wrote.{Wrote}
 
@@ -24,6 +24,14 @@ wrote-none old = record { count = refl; bytes = over-nil old }
 
 pub wrote-length : {l old new : List ℕ} {at : ℕ} → Wrote l old at new → length l ≤ length old → length new ≡ length old
 wrote-length {l} {old} w h = rw (w .bytes) (length-over l old h)
+
+-- what was written is the front of the buffer
+pub wrote-front : {l old new : List ℕ} {at : ℕ} → Wrote l old at new → take at new ≡ l
+wrote-front {l} {old} {at = at} w = rw (w .bytes) (take-over at l old (sym (w .count)))
+
+pub wrote-inside : {l old new : List ℕ} {at : ℕ} → Wrote l old at new → at ≤ length new
+unfolding over
+wrote-inside {l} {old} w = omega (arith, w .count, ap length (w .bytes), length-append l (drop (length l) old))
 
 -- a copy: an entry more, and where it ends
 pub wrote-take : {old new : List ℕ} {i : ℕ} (word : List ℕ) (d : ℕ) → Wrote (take i word) old i new → i < length word → i < length old → Wrote (take (i + 1) word) old (i + 1) (set new i (getD word i d))
