@@ -1,0 +1,98 @@
+// A line as far as it is read, character by character.
+ghost use mathlib.Core.Path.{_≡_};
+ghost use mathlib.Core.Bool.{cond};
+ghost use Rattle.frames.specs.Hex.{isBlank, digitOf};
+ghost use Rattle.frames.specs.Line.{Held};
+ghost use Rattle.frames.specs.Line.{begin as Line·begin};
+ghost use Rattle.frames.specs.Line.{read as Line·read};
+
+// A line as far as it is read.
+pub struct Line {
+    // its number, from 1
+    pub number: u64,
+    // whether it has a character
+    pub begun: bool,
+    // whether it is hex
+    pub hex: bool,
+    // the first digit of a byte, 16 for none
+    pub high: u8,
+    // how many bytes are kept
+    pub size: usize,
+    // the first bytes, zero beyond them
+    pub bytes: [u8; 20],
+}
+
+// Line k before its first character.
+pub fn begin(k: u64) -> Line
+    ensures { λ r. ⌜ r ≡ Line·begin k ⌝ }
+{
+    Line {
+        number: k,
+        begun: false,
+        hex: true,
+        high: 16,
+        size: 0,
+        bytes: [0u8; 20],
+    }
+}
+
+// Whether a character is a space, a tab or a carriage return.
+fn is_blank(c: u8) -> bool
+    ensures { λ r. ⌜ r ≡ isBlank c ⌝ }
+{
+    (c == 32) | (c == 9) | (c == 13)
+}
+
+// The value of a hex digit, in either case; 16 for any other character.
+fn digit_of(c: u8) -> u8
+    ensures { λ r. ⌜ r ≡ digitOf c ⌝ }
+{
+    if (48 <= c) & (c <= 57) {
+        return c - 48;
+    }
+    if (65 <= c) & (c <= 70) {
+        return c - 55;
+    }
+    if (97 <= c) & (c <= 102) {
+        return c - 87;
+    }
+    16
+}
+
+// A digit if it is the first of a byte, 16 if not.
+fn first_digit(first: bool, d: u8) -> u8
+    ensures { λ r. ⌜ r ≡ cond first d 16 ⌝ }
+{
+    if first { d } else { 16 }
+}
+
+// The line and one character more. Of more than 20 bytes the first 20 are kept.
+pub fn read(s: Line, c: u8) -> Line
+    requires { ⌜ Held s ⌝ }
+    ensures { λ r. ⌜ r ≡ Line·read s c ⌝ }
+{
+    let d = digit_of(c);
+    let digit = d < 16;
+    let waits = s.high != 16;
+    let size = s.size;
+    let mut bytes = s.bytes;
+    if digit & waits & (size < 20) {
+        bytes[size] = 16 * s.high + d;
+        return Line {
+            number: s.number,
+            begun: true,
+            hex: s.hex,
+            high: 16,
+            size: size + 1,
+            bytes,
+        };
+    }
+    Line {
+        number: s.number,
+        begun: true,
+        hex: s.hex & (digit | (is_blank(c) & !waits)),
+        high: first_digit(digit & !waits, d),
+        size,
+        bytes,
+    }
+}
