@@ -1,5 +1,6 @@
 // frames COUNT SEED: holds the product's writing and reading of frames, linked from crates/exported, to frame.rs on
-// COUNT cases, and prints how often each refusal came, the cases that differ and 'N passed, M failed'.
+// COUNT cases, and its reading of old frames to Paper 5's sentence that they give 17. Prints how often each refusal
+// came, the cases that differ and 'N passed, M failed'.
 
 mod frame;
 mod random;
@@ -55,6 +56,32 @@ impl Random {
         }
     }
 
+    /// A byte in the place of n that is not n.
+    fn other_stations(&mut self, n: u8) -> u8 {
+        loop {
+            let other = match self.range(0, 5) {
+                0 => self.pick(&[0, 1, 9, 10, 255, n as u64 + 128]) as u8,
+                1 => self.pick(&[n as u64 - 1, n as u64 + 1]) as u8,
+                2 => self.byte(),
+                _ => self.range(2, 8) as u8,
+            };
+            if other != n {
+                return other;
+            }
+        }
+    }
+
+    /// Makes the counts such that no frame has them: one above 4095, or the sender's own 0.
+    fn spoil(&mut self, sender: u8, counts: &mut [u16]) {
+        let own = sender as usize;
+        if own >= 1 && own <= counts.len() && self.percent(50) {
+            counts[own - 1] = 0;
+        } else {
+            let place = self.range(0, counts.len() as u64 - 1) as usize;
+            counts[place] = self.pick(&[4096, 4097, 8192, 65_535]) as u16;
+        }
+    }
+
     /// n, the sender and the vector of a frame that is well formed.
     fn leader(&mut self) -> (u8, u8, Vec<u16>) {
         let n = self.range(2, 8) as u8;
@@ -70,11 +97,33 @@ fn wide(counts: &[u16]) -> Vec<u64> {
     counts.iter().map(|&c| c as u64).collect()
 }
 
-/// What was compared: refusals by number (0: none) for writing and for reading.
+/// The frame's bytes, well formed or not.
+fn laid_out(n: u8, sender: u8, counts: &[u16]) -> Vec<u8> {
+    let mut bytes = vec![0x10, sender, n];
+    bytes.extend(counts.iter().flat_map(|c| c.to_le_bytes()));
+    bytes
+}
+
+/// The same as it was before Paper 5: 2 + 2n bytes, and n is none of them.
+fn laid_out_old(sender: u8, counts: &[u16]) -> Vec<u8> {
+    let mut bytes = vec![0x10, sender];
+    bytes.extend(counts.iter().flat_map(|c| c.to_le_bytes()));
+    bytes
+}
+
+/// The bytes of a frame that is well formed, by frame.rs.
+fn well_written(n: u8, sender: u8, counts: &[u16]) -> Vec<u8> {
+    let mut bytes = vec![0; 3 + 2 * n as usize];
+    write_frame(n as u64, sender as u64, &wide(counts), &mut bytes).expect("it is well formed");
+    bytes
+}
+
+/// What was compared: refusals by number (0: none) for writing and for reading, and old frames for an n from 2 to 8.
 #[derive(Default)]
 struct Tally {
     written: BTreeMap<u64, u64>,
     read: BTreeMap<u64, u64>,
+    old: u64,
 }
 
 /// Writes by both; what differs, if anything.
@@ -103,10 +152,26 @@ fn compare_write(tally: &mut Tally, n: u8, sender: u8, counts: &[u16], buffer: &
         return None;
     }
     Some(format!(
-        "write n {n} sender {sender} counts {counts:?} buffer {buffer:02x?}: refusal {refusal} length {length} buffer {:02x?}, \
-         and should be {own_refusal} {own_length} {own_buffer:02x?}",
+        "write n {n} sender {sender} counts {counts:?} buffer {buffer:02x?}: refusal {refusal} length {length} \
+         buffer {:02x?}, and should be {own_refusal} {own_length} {own_buffer:02x?}",
         &guarded[GUARD..GUARD + buffer.len()]
     ))
+}
+
+/// Reads by the product: the refusal, the sender, the eight counts, and whether nothing around them was touched.
+fn product_read(n: u8, bytes: &[u8]) -> (u64, u8, [u16; 8], bool) {
+    let mut sender = 77;
+    let mut guarded = [0xA5A5; 8 + 2 * GUARD];
+    // The pointers are to live values of these lengths.
+    let refusal = unsafe {
+        let lent = guarded.as_mut_ptr().add(GUARD);
+        leader_frame_read(n, bytes.as_ptr(), bytes.len(), &mut sender, lent)
+    };
+    let mut counts = [0; 8];
+    counts.copy_from_slice(&guarded[GUARD..GUARD + 8]);
+    let around = guarded[..GUARD].iter().chain(&guarded[GUARD + 8..]);
+    let untouched = around.copied().all(|c| c == 0xA5A5);
+    (refusal, sender, counts, untouched)
 }
 
 /// Reads by both; what differs, if anything.
@@ -121,17 +186,8 @@ fn compare_read(tally: &mut Tally, n: u8, bytes: &[u8]) -> Option<String> {
     }
     *tally.read.entry(own_refusal).or_default() += 1;
 
-    let mut sender = 77;
-    let mut guarded = [0xA5A5; 8 + 2 * GUARD];
-    // The pointers are to live values of these lengths.
-    let refusal = unsafe {
-        let lent = guarded.as_mut_ptr().add(GUARD);
-        leader_frame_read(n, bytes.as_ptr(), bytes.len(), &mut sender, lent)
-    };
-    let counts = &guarded[GUARD..GUARD + 8];
-    let around = guarded[..GUARD].iter().chain(&guarded[GUARD + 8..]);
-    let untouched = around.copied().all(|c| c == 0xA5A5);
-    if (refusal, sender as u64, counts) == (own_refusal, own_sender, &own_counts[..]) && untouched {
+    let (refusal, sender, counts, untouched) = product_read(n, bytes);
+    if (refusal, sender as u64, counts) == (own_refusal, own_sender, own_counts) && untouched {
         return None;
     }
     Some(format!(
@@ -142,7 +198,7 @@ fn compare_read(tally: &mut Tally, n: u8, bytes: &[u8]) -> Option<String> {
 
 /// A buffer that is shorter than the frame, exact, or longer.
 fn buffer(random: &mut Random, n: u8) -> Vec<u8> {
-    let exact = 2 + 2 * (n as usize);
+    let exact = 3 + 2 * (n as usize);
     let length = match random.range(0, 9) {
         0 => 0,
         1 => exact - 1,
@@ -157,23 +213,25 @@ fn buffer(random: &mut Random, n: u8) -> Vec<u8> {
 /// A well-formed frame, written and read back; the buffer of every length up to two beyond it.
 fn well_formed(random: &mut Random, tally: &mut Tally) -> Option<String> {
     let (n, sender, counts) = random.leader();
-    let exact = 2 + 2 * n as usize;
+    let exact = 3 + 2 * n as usize;
     for length in 0..=exact + 2 {
         let lent = random.bytes(length);
         if let Some(difference) = compare_write(tally, n, sender, &counts, &lent) {
             return Some(difference);
         }
     }
-    let mut bytes = vec![0; exact];
-    write_frame(n as u64, sender as u64, &wide(&counts), &mut bytes).expect("it is well formed");
-    compare_read(tally, n, &bytes)
+    compare_read(tally, n, &well_written(n, sender, &counts))
 }
 
 /// Anything handed to writing.
 fn any_write(random: &mut Random, tally: &mut Tally) -> Option<String> {
     let n = random.stations();
     let sender = random.sender(n);
-    let many = if random.percent(85) { n.min(20) as u64 } else { random.range(0, 10) };
+    let many = match random.range(0, 19) {
+        0 => n as u64 + 256,
+        1 | 2 => random.range(0, 10),
+        _ => n.min(20) as u64,
+    };
     let mut counts: Vec<u16> = (0..many).map(|_| random.count()).collect();
     if random.percent(30) && many > 0 {
         let place = random.range(0, many - 1) as usize;
@@ -197,8 +255,7 @@ fn grid(random: &mut Random, tally: &mut Tally) -> Option<String> {
             if let Some(difference) = compare_write(tally, n, sender, &counts, &lent) {
                 return Some(difference);
             }
-            let mut bytes = vec![0x10, sender];
-            bytes.extend(counts.iter().flat_map(|c| c.to_le_bytes()));
+            let bytes = laid_out(n, sender, &counts);
             if let Some(difference) = compare_read(tally, n, &bytes) {
                 return Some(difference);
             }
@@ -210,8 +267,7 @@ fn grid(random: &mut Random, tally: &mut Tally) -> Option<String> {
 /// A frame with each of its bytes damaged in turn.
 fn damaged(random: &mut Random, tally: &mut Tally) -> Option<String> {
     let (n, sender, counts) = random.leader();
-    let mut bytes = vec![0; 2 + 2 * n as usize];
-    write_frame(n as u64, sender as u64, &wide(&counts), &mut bytes).expect("it is well formed");
+    let mut bytes = well_written(n, sender, &counts);
     for place in 0..bytes.len() {
         let right = bytes[place];
         let flipped = right ^ (1 << random.range(0, 7));
@@ -229,8 +285,7 @@ fn damaged(random: &mut Random, tally: &mut Tally) -> Option<String> {
 /// A frame cut, lengthened, or read with another number of stations.
 fn wrong_length(random: &mut Random, tally: &mut Tally) -> Option<String> {
     let (n, sender, counts) = random.leader();
-    let mut bytes = vec![0; 2 + 2 * n as usize];
-    write_frame(n as u64, sender as u64, &wide(&counts), &mut bytes).expect("it is well formed");
+    let mut bytes = well_written(n, sender, &counts);
     for stations in 0..=10 {
         if let Some(difference) = compare_read(tally, stations, &bytes) {
             return Some(difference);
@@ -241,24 +296,133 @@ fn wrong_length(random: &mut Random, tally: &mut Tally) -> Option<String> {
             return Some(difference);
         }
     }
-    let more = random.range(1, 20) as usize;
+    let more = if random.percent(20) { 256 } else { random.range(1, 20) as usize };
     bytes.extend(random.bytes(more));
     compare_read(tally, n, &bytes)
 }
 
-/// Bytes with no plan but the first two.
+/// A frame of one number of stations made as long as those of each other, read with every n.
+fn as_long_as_another(random: &mut Random, tally: &mut Tally) -> Option<String> {
+    let (n, sender, counts) = random.leader();
+    let fill = random.pick(&[0, 1, 15, 255]) as u8;
+    for other in 2..=8 {
+        let mut bytes = well_written(n, sender, &counts);
+        bytes.resize(3 + 2 * other, fill);
+        for stations in 0..=10 {
+            if let Some(difference) = compare_read(tally, stations, &bytes) {
+                return Some(difference);
+            }
+        }
+    }
+    None
+}
+
+/// A frame as it was before Paper 5, read with every n. That it gives 17 for each from 2 to 8 is asked by itself, of
+/// the product and of frame.rs.
+fn old_frame(random: &mut Random, tally: &mut Tally) -> Option<String> {
+    let (n, sender, mut counts) = random.leader();
+    if random.percent(30) {
+        counts[0] = counts[0] / 256 * 256 + random.range(2, 8) as u16; // the third byte may be taken for n
+    }
+    let bytes = laid_out_old(sender, &counts);
+    for stations in 2..=8 {
+        tally.old += 1;
+        let refusal = product_read(stations, &bytes).0;
+        if refusal != 17 || read_frame(stations as u64, &bytes) != Err(17) {
+            return Some(format!(
+                "old frame {bytes:02x?} of {n} stations, read with n {stations}: refusal {refusal}, by frame.rs {:?}, \
+                 and should be 17",
+                read_frame(stations as u64, &bytes)
+            ));
+        }
+    }
+    for stations in 0..=10 {
+        if let Some(difference) = compare_read(tally, stations, &bytes) {
+            return Some(difference);
+        }
+    }
+    None
+}
+
+/// A frame with every choice of its parts wrong at once, so that the order of the refusals shows.
+fn wrong_read(random: &mut Random, tally: &mut Tally) -> Option<String> {
+    for parts in 0..32 {
+        let wrong = |part: u32| parts & (1 << part) != 0;
+        let (n, mut sender, mut counts) = random.leader();
+        if wrong(0) {
+            sender = random.pick(&[0, n as u64 + 1, 9, 255]) as u8;
+        }
+        if wrong(1) {
+            random.spoil(sender, &mut counts);
+        }
+        let written = if wrong(2) { random.other_stations(n) } else { n };
+        let mut bytes = laid_out(written, sender, &counts);
+        if wrong(3) {
+            bytes[0] = random.pick(&[0, 1, 0x0F, 0x11, 0x90, 255]) as u8;
+        }
+        if wrong(4) {
+            match random.range(0, 3) {
+                0 => bytes.truncate(2 + 2 * n as usize),
+                1 => bytes.truncate(random.range(0, 2 + 2 * n as u64) as usize),
+                2 => bytes.push(random.byte()),
+                _ => bytes.extend([1, 0]),
+            }
+        }
+        let no_stations = random.pick(&[0, 1, 9, 10, 255]) as u8;
+        for stations in [n, no_stations] {
+            if let Some(difference) = compare_read(tally, stations, &bytes) {
+                return Some(difference);
+            }
+        }
+    }
+    None
+}
+
+/// The same for writing, where the counts may be too many or too few and the buffer too short.
+fn wrong_write(random: &mut Random, tally: &mut Tally) -> Option<String> {
+    for parts in 0..16 {
+        let wrong = |part: u32| parts & (1 << part) != 0;
+        let (n, mut sender, mut counts) = random.leader();
+        if wrong(0) {
+            sender = random.pick(&[0, n as u64 + 1, 9, 255]) as u8;
+        }
+        if wrong(1) {
+            random.spoil(sender, &mut counts);
+        }
+        if wrong(2) {
+            if random.percent(50) {
+                counts.pop();
+            } else {
+                counts.push(1);
+            }
+        }
+        let exact = 3 + 2 * n as u64;
+        let length = if wrong(3) { random.range(0, exact - 1) } else { exact + random.range(0, 3) };
+        let lent = random.bytes(length as usize);
+        let no_stations = random.pick(&[0, 1, 9, 10, 255]) as u8;
+        for stations in [n, no_stations] {
+            if let Some(difference) = compare_write(tally, stations, sender, &counts, &lent) {
+                return Some(difference);
+            }
+        }
+    }
+    None
+}
+
+/// Bytes with no plan but the first three.
 fn any_read(random: &mut Random, tally: &mut Tally) -> Option<String> {
     let n = random.stations();
-    let length = if random.percent(90) { 2 + 2 * n as usize } else { random.range(0, 24) as usize };
+    let length = if random.percent(90) { 3 + 2 * n as usize } else { random.range(0, 24) as usize };
     let mut bytes = random.bytes(length);
-    if length >= 2 && random.percent(90) {
+    if length >= 3 && random.percent(90) {
         bytes[0] = 0x10;
         bytes[1] = random.sender(n);
-        for high in bytes[2..].iter_mut().skip(1).step_by(2) {
+        bytes[2] = if random.percent(90) { n } else { random.stations() };
+        for high in bytes[3..].iter_mut().skip(1).step_by(2) {
             *high %= 16;
         }
-        if length > 3 && random.percent(40) {
-            let place = random.range(2, length as u64 - 1) as usize;
+        if length > 4 && random.percent(40) {
+            let place = random.range(3, length as u64 - 1) as usize;
             bytes[place] = random.pick(&[0, 15, 16, 255]) as u8;
         }
     }
@@ -277,13 +441,17 @@ fn main() {
     let mut tally = Tally::default();
     let (mut passed, mut failed) = (0, 0);
     for number in 1..=count {
-        let difference = match number % 6 {
+        let difference = match number % 10 {
             0 => well_formed(&mut random, &mut tally),
             1 => any_write(&mut random, &mut tally),
             2 => damaged(&mut random, &mut tally),
             3 => wrong_length(&mut random, &mut tally),
             4 => grid(&mut random, &mut tally),
-            _ => any_read(&mut random, &mut tally),
+            5 => any_read(&mut random, &mut tally),
+            6 => as_long_as_another(&mut random, &mut tally),
+            7 => old_frame(&mut random, &mut tally),
+            8 => wrong_read(&mut random, &mut tally),
+            _ => wrong_write(&mut random, &mut tally),
         };
         match difference {
             None => passed += 1,
@@ -297,6 +465,7 @@ fn main() {
         let texts: Vec<String> = refusals.iter().map(|(number, times)| format!("{number}: {times}")).collect();
         println!("{name}, times each refusal (0: accepted): {}", texts.join(", "));
     }
+    println!("read, times an old frame for an n from 2 to 8: {}", tally.old);
     println!("{passed} passed, {failed} failed");
     std::process::exit(if failed == 0 && passed != 0 { 0 } else { 1 });
 }
