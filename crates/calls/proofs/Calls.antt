@@ -51,7 +51,7 @@ some-went (negsuc k) f e = absurd (true≢false (ap (λ (y : ℤ). leZ y (pos 0)
 pub stuck : (put : ℤ) (done all : ℕ) → moved put ≡ 0 → done < all → Taken false put done all
 stuck put done all none some = (none, some)
 
--- what a test of whether all was taken tells, and of whether no read failed
+-- what a test of whether all was taken tells
 pub taken-all : (b : Bool) (put : ℤ) {done all : ℕ} → Taken b put done all → not b ≡ false → done ≡ all
 taken-all true put t e = t
 taken-all false put t e = absurd (true≢false e)
@@ -59,8 +59,3 @@ taken-all false put t e = absurd (true≢false e)
 pub taken-some : (b : Bool) (put : ℤ) {done all : ℕ} → Taken b put done all → not b ≡ true → Taken false put done all
 taken-some true put t e = absurd (true≢false (sym e))
 taken-some false put t e = t
-
--- a read that did not fail and brought nothing found the end
-pub ended : (z : ℤ) → ltZ (toZ w64 (ofZ w64 z)) (pos 0) ≡ false → mag z < 2 ^ 63 → moved z ≡ 0 → z ≡ pos 0
-ended (pos k) e f m = ap pos m
-ended (negsuc k) e f m = absurd (true≢false (ap (λ (y : ℤ). ltZ y (pos 0)) (sym (back (negsuc k) f)) ∙ e))

@@ -3,7 +3,7 @@ pub mod Accepted
 pub mod Body
 pub mod Example
 pub mod Front
-pub mod OldFrames
+pub mod Lengths
 pub mod Ranges
 pub mod Restores
 pub mod WellFormed

@@ -2,10 +2,11 @@
 use mathlib.Core.Path.{_≡_}
 use mathlib.Core.Logic.{_↔_}
 use mathlib.Core.List.{List, [], _∷_}
+use mathlib.Core.Bool.{true, false}
 use Prim.Native.Nat.{ℕ, _+_, _*_, _-_, _≤_, _<_}
 use lib.ListN.{length, getD, take, replicate}
 use Rattle.lists.specs.Entries.{over}
-use Rattle.frame.specs.Frame.{body, frame}
+use Rattle.frame.specs.Frame.{body, frame, isLength}
 use Rattle.frame.specs.Writing.{writing}
 use Rattle.frame.specs.Reading.{reading}
 
@@ -50,11 +51,25 @@ WriteRestores =
 abbrev pub FrameLength : Type 0
 FrameLength = (n sender : ℕ) (counts buffer : List ℕ) → writing n sender counts buffer .refusal ≡ 0 → writing n sender counts buffer .written ≡ 3 + 2 * n
 
+-- a number of stations, from 2 to 8, whose frames have this length
+pub record Sized (size : ℕ) : Type 0 where
+  pub n : ℕ
+  pub low : 2 ≤ n
+  pub high : n ≤ 8
+  pub is : size ≡ 3 + 2 * n
+
+abbrev pub Lengths : Type 0
+Lengths = (size : ℕ) → (isLength size ≡ true) ↔ Sized size
+
+-- what has the length of no frame gives 17, for whichever n it is read
+abbrev pub NoLength : Type 0
+NoLength = (n : ℕ) (bytes : List ℕ) → isLength (length bytes) ≡ false → 2 ≤ n → n ≤ 8 → reading n bytes .refusal ≡ 17
+
 -- document 01's frame, which has no n
 unfoldable pub oldFrame : ℕ → List ℕ → List ℕ
 oldFrame sender counts = 0x10 ∷ sender ∷ body counts
 
--- it gives 17, whatever its sender and its counts are and for whichever n it is read
+-- it gives 17, whatever its sender and its counts are
 abbrev pub OldFrames : Type 0
 OldFrames = (n sender : ℕ) (counts : List ℕ) → 2 ≤ n → n ≤ 8 → reading n (oldFrame sender counts) .refusal ≡ 17
 

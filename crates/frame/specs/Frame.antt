@@ -3,8 +3,8 @@ use mathlib.Core.List.{List, [], _∷_}
 use mathlib.Core.Bool.{Bool, _&&_}
 use Prim.Native.Nat.{ℕ, _+_, _*_, _-_, _/_, _%_}
 use lib.ListN.{length, getD}
-use lib.Dec.{leb}
-use Rattle.lists.specs.Test.{allTo}
+use lib.Dec.{leb, eqb}
+use Rattle.lists.specs.Test.{allTo, someTo}
 
 -- the counts, each as its low byte and its high byte
 unfoldable pub body : List ℕ → List ℕ
@@ -21,6 +21,10 @@ header = 3
 -- the length of a frame for n stations
 abbrev pub frameSize : ℕ → ℕ
 frameSize n = header + 2 * n
+
+-- it is the length of a frame, for 2, 3, .. or 8 stations
+unfoldable pub isLength : ℕ → Bool
+isLength size = someTo 7 (λ k. eqb size (frameSize (k + 2)))
 
 -- there are 2 to 8 stations
 unfoldable pub stationsIn : ℕ → Bool

@@ -1,6 +1,6 @@
 -- Reading a frame ("Read frame" of document 01, with Paper 5 of document 02).
 use mathlib.Core.List.{List, [], _∷_}
-use mathlib.Core.Bool.{cond}
+use mathlib.Core.Bool.{Bool, cond}
 use Prim.Native.Nat.{ℕ, _+_, _*_}
 use lib.ListN.{length, getD, replicate}
 use lib.Dec.{eqb}
@@ -25,17 +25,20 @@ senderOf bytes = getD bytes 1 0
 abbrev pub writtenCount : List ℕ → ℕ
 writtenCount bytes = getD bytes 2 0
 
--- the refusals in their order, 0 for none
-abbrev pub readRefusal : ℕ → List ℕ → ℕ
-readRefusal n bytes =
-    firstFailed
-    ((stationsIn n, 5)
+-- the tests in their order, each with the refusal if it fails
+abbrev pub readTests : ℕ → List ℕ → List (Bool × ℕ)
+readTests n bytes =
+    (stationsIn n, 5)
     ∷ (eqb (length bytes) (frameSize n), 17)
     ∷ (eqb (getD bytes 0 0) 0x10, 18)
     ∷ (eqb (writtenCount bytes) n, 24)
     ∷ (senderIn n (senderOf bytes), 19)
     ∷ (countsIn (senderOf bytes) (countsOf n bytes), 20)
-    ∷ [])
+    ∷ []
+
+-- the first that fails, 0 if none does
+abbrev pub readRefusal : ℕ → List ℕ → ℕ
+readRefusal n bytes = firstFailed (readTests n bytes)
 
 -- what reading answers: the refusal, the sender, and the counts with zeros beyond n
 pub record Reading : Type 0 where

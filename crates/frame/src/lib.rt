@@ -3,7 +3,7 @@ ghost use mathlib.Core.Path.{_≡_};
 ghost use Prim.Native.Nat.{_+_, _*_, _<_, _≤_};
 ghost use lib.ListN.{length, replicate};
 ghost use Rattle.lists.specs.Entries.{over};
-ghost use Rattle.frame.specs.Frame.{frame, header, frameSize, stationsIn, senderIn, countsIn};
+ghost use Rattle.frame.specs.Frame.{frame, header, frameSize, isLength, stationsIn, senderIn, countsIn};
 ghost use Rattle.frame.specs.Reading.{countAt, countsOf, reading};
 ghost use Rattle.frame.specs.Reading.{said as saidRead};
 ghost use Rattle.frame.specs.Writing.{writing, said};
@@ -80,6 +80,18 @@ fn frame_length(n: u8) -> usize
     ensures { λ r. ⌜ r ≡ frameSize n ⌝ }
 {
     LENGTHS[(n - 2) as usize]
+}
+
+// Whether a length is that of a frame, for 2, 3, .. or 8 stations.
+pub fn is_length(size: usize) -> bool
+    ensures { λ r. ⌜ r ≡ isLength size ⌝ }
+{
+    for k in 0..7 {
+        if size == LENGTHS[k] {
+            return true;
+        }
+    }
+    false
 }
 
 // Lays the frame of n, sender and counts over the front of the buffer.

@@ -15,7 +15,7 @@ use Rattle.text.specs.Wrote.{Wrote}
 use Rattle.text.proofs.Parts.{wrote-part, wrote-length}
 use Rattle.frames.specs.Claims.{Parts, ended}
 use Rattle.frames.specs.Hex.{digitOf, isDigit}
-use Rattle.frames.specs.Line.{Held, begin, read, longestLine, moved, toldAt, after, printed}
+use Rattle.frames.specs.Line.{Held, kept, begin, read, longestLine, moved, toldAt, after, printed}
 use Rattle.frames.specs.declared.line.Line.{Line}
 use Rattle.frames.proofs.Room.{line-room}
 
@@ -45,7 +45,7 @@ held-read : (s : Line) (c : ℕ) → Held s → Held (read s c)
 unfolding read
 held-read s c h = (
   cond-elim (λ x. x ≤ 16) (isDigit c && not (not (eqb (s .high) 16))) (λ e. small (both-first _ _ e)) (λ e. omega arith),
-  cond-elim (λ x. x ≤ 20) (isDigit c && not (eqb (s .high) 16) && ltb (s .size) 20) (λ e. omega (arith, ltb-true (s .size) 20 (three (isDigit c) (not (eqb (s .high) 16)) (ltb (s .size) 20) e .2))) (λ e. h .1),
+  cond-elim (λ x. x ≤ kept) (isDigit c && not (eqb (s .high) 16) && ltb (s .size) kept) (λ e. omega (arith, ltb-true (s .size) kept (three (isDigit c) (not (eqb (s .high) 16)) (ltb (s .size) kept) e .2))) (λ e. h .1),
 )
   where
     small : isDigit c ≡ true → digitOf c ≤ 16

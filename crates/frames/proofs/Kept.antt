@@ -15,36 +15,37 @@ use borrow.Author.Tests.{lt-ltb, le-ltb, eqb-true, ne-eqb}
 use Rattle.lists.proofs.Bools.{either, false-unless}
 use Rattle.frame.specs.Frame.{frameSize, stationsIn}
 use Rattle.frame.specs.Reading.{reading}
+use Rattle.frame.proofs.Lengths.{lengths}
 use Rattle.frame.proofs.Ranges.{stations-range}
 use Rattle.frames.specs.Explained.{ownCount, frameText, found, lineText}
 use Rattle.frames.specs.Hex.{Spelled, isBlank, digitOf, isDigit, noHex, withFirst, spelled}
-use Rattle.frames.specs.Line.{begin, read, told, spells}
+use Rattle.frames.specs.Line.{kept, begin, read, told, spells}
 use Rattle.frames.specs.declared.line.Line.{Line}
 use Rattle.frames.proofs.Characters.{More}
-use Rattle.frames.proofs.Own.{lengths, own-two}
+use Rattle.frames.proofs.Own.{own-two}
 use Rattle.frames.proofs.Spelling.{spelledFrom, from-left}
 
--- the first twenty bytes say all of a frame
-long : (n : ℕ) (b : Bool) (bytes cut : List ℕ) → stationsIn n ≡ b → 20 ≤ length bytes → 20 ≤ length cut → reading n cut ≡ reading n bytes
+-- the first bytes, as many as are kept, say all of a frame
+long : (n : ℕ) (b : Bool) (bytes cut : List ℕ) → stationsIn n ≡ b → kept ≤ length bytes → kept ≤ length cut → reading n cut ≡ reading n bytes
 unfolding reading
 long n false bytes cut e h g = rw e
 long n true bytes cut e h g =
     let r = stations-range n .0 e in
     rw (e, ne-eqb (length bytes) (frameSize n) (λ i. omega arith), ne-eqb (length cut) (frameSize n) (λ i. omega arith))
 
-no-frame : (bytes : List ℕ) → 20 ≤ length bytes → ownCount bytes ≡ 2
+no-frame : (bytes : List ℕ) → kept ≤ length bytes → ownCount bytes ≡ 2
 no-frame bytes h = own-two bytes (false-unless _ (λ e. let s = lengths (length bytes) .0 e in omega (arith, s .is, s .high)))
 
-pub first-twenty : (bytes : List ℕ) → frameText (take 20 bytes) ≡ frameText bytes
+pub first-kept : (bytes : List ℕ) → frameText (take kept bytes) ≡ frameText bytes
 unfolding stationsIn
-first-twenty bytes = go (decLt (length bytes) 20)
+first-kept bytes = go (decLt (length bytes) kept)
   where
-    go : Dec (length bytes < 20) → frameText (take 20 bytes) ≡ frameText bytes
-    go (yes l) = rw (take-all 20 bytes (omega arith))
+    go : Dec (length bytes < kept) → frameText (take kept bytes) ≡ frameText bytes
+    go (yes l) = rw (take-all kept bytes (omega arith))
     go (no l) =
-        let all : 20 ≤ length bytes = omega arith in
-        let cut : 20 ≤ length (take 20 bytes) = omega (arith, length-take-le 20 bytes all) in
-        rw (no-frame bytes all, no-frame (take 20 bytes) cut, long 2 true bytes (take 20 bytes) refl all cut)
+        let all : kept ≤ length bytes = omega arith in
+        let cut : kept ≤ length (take kept bytes) = omega (arith, length-take-le kept bytes all) in
+        rw (no-frame bytes all, no-frame (take kept bytes) cut, long 2 true bytes (take kept bytes) refl all cut)
 
 -- what a line is explained by: whether it is hex, and then its bytes
 same-found : (k : ℕ) (hex : Bool) (a b : List ℕ) → (hex ≡ true → frameText a ≡ frameText b) → lineText k (record { hex = hex; bytes = a }) ≡ lineText k (record { hex = hex; bytes = b })
@@ -52,12 +53,12 @@ unfolding found lineText
 same-found k true a b e = rw (e refl)
 same-found k false a b e = refl
 
--- the bytes so far are B, of which the first twenty are kept
+-- the bytes so far are B, of which the first are kept
 pub record Keeps (s : Line) (B : List ℕ) : Type 0 where
   pub hex : s .hex ≡ true
-  pub room : length (s .bytes) ≡ 20
-  pub size : s .size ≡ min 20 (length B)
-  pub bytes : take (s .size) (s .bytes) ≡ take 20 B
+  pub room : length (s .bytes) ≡ kept
+  pub size : s .size ≡ min kept (length B)
+  pub bytes : take (s .size) (s .bytes) ≡ take kept B
 
 -- the characters of a line, one after the other
 unfoldable pub readAll : Line → List ℕ → Line
@@ -97,7 +98,7 @@ keeps-same s c B k e h = record { hex = h; room = rw e (k .room); size = rw e (k
 -- and one that ends a byte
 keeps-more : (s : Line) (c : ℕ) (B : List ℕ) → Keeps s B → isDigit c ≡ true → eqb (s .high) 16 ≡ false → Keeps (read s c) (B ++ ((16 * s .high + digitOf c) ∷ []))
 unfolding read
-keeps-more s c B k d w = go (decLt (s .size) 20)
+keeps-more s c B k d w = go (decLt (s .size) kept)
   where
     b : ℕ
     b = 16 * s .high + digitOf c
@@ -108,30 +109,30 @@ keeps-more s c B k d w = go (decLt (s .size) 20)
     more : length B′ ≡ length B + 1
     more = length-append B (b ∷ [])
 
-    go : Dec (s .size < 20) → Keeps (read s c) B′
+    go : Dec (s .size < kept) → Keeps (read s c) B′
     go (yes l) =
-        let few : length B < 20 = omega (arith, k .size) in
-        let whole : take 20 B ≡ B = take-all 20 B (omega arith) in
+        let few : length B < kept = omega (arith, k .size) in
+        let whole : take kept B ≡ B = take-all kept B (omega arith) in
         let at : s .size ≡ length B = omega (arith, k .size) in
         record {
           hex = rw (d, k .hex);
-          room = rw (d, w, lt-ltb (s .size) 20 l) (length-set (s .bytes) (s .size) b ∙ k .room);
-          size = rw (d, w, lt-ltb (s .size) 20 l) (omega (arith, at, more));
-          bytes = rw (d, w, lt-ltb (s .size) 20 l, take-all 20 B′ (omega (arith, more))) (stored l (k .bytes ∙ whole));
+          room = rw (d, w, lt-ltb (s .size) kept l) (length-set (s .bytes) (s .size) b ∙ k .room);
+          size = rw (d, w, lt-ltb (s .size) kept l) (omega (arith, at, more));
+          bytes = rw (d, w, lt-ltb (s .size) kept l, take-all kept B′ (omega (arith, more))) (stored l (k .bytes ∙ whole));
         }
       where
-        stored : s .size < 20 → take (s .size) (s .bytes) ≡ B → take (s .size + 1) (set (s .bytes) (s .size) b) ≡ B′
+        stored : s .size < kept → take (s .size) (s .bytes) ≡ B → take (s .size + 1) (set (s .bytes) (s .size) b) ≡ B′
         stored l e =
             let here : s .size < length (s .bytes) = omega (arith, k .room) in
             rw (add-one (s .size), take-suc (set (s .bytes) (s .size) b) (s .size) 0 (omega (arith, length-set (s .bytes) (s .size) b)))
             (rw (take-set-le (s .size) (s .bytes) (s .size) b (omega arith), getD-set-same (s .bytes) (s .size) b 0 here, e))
     go (no l) =
-        let all : 20 ≤ length B = omega (arith, k .size) in
+        let all : kept ≤ length B = omega (arith, k .size) in
         record {
           hex = rw (d, k .hex);
-          room = rw (d, w, le-ltb (s .size) 20 (omega arith)) (k .room);
-          size = rw (d, w, le-ltb (s .size) 20 (omega arith)) (omega (arith, k .size, more));
-          bytes = rw (d, w, le-ltb (s .size) 20 (omega arith)) (k .bytes ∙ sym (take-append-le 20 B (b ∷ []) all));
+          room = rw (d, w, le-ltb (s .size) kept (omega arith)) (k .room);
+          size = rw (d, w, le-ltb (s .size) kept (omega arith)) (omega (arith, k .size, more));
+          bytes = rw (d, w, le-ltb (s .size) kept (omega arith)) (k .bytes ∙ sym (take-append-le kept B (b ∷ []) all));
         }
 
 -- a byte more before what the rest spells
@@ -148,7 +149,7 @@ unfolding readAll read spelledFrom
 goes s B [] k = end (eqb (s .high) 16)
   where
     end : (w : Bool) → lineText (s .number) (record { hex = s .hex && w; bytes = take (s .size) (s .bytes) }) ≡ lineText (s .number) (prefixed B (cond w (record { hex = true; bytes = [] }) noHex))
-    end true = rw (k .hex) (same-found (s .number) true _ _ (λ e. rw (k .bytes, append-nil B) (first-twenty B)))
+    end true = rw (k .hex) (same-found (s .number) true _ _ (λ e. rw (k .bytes, append-nil B) (first-kept B)))
     end false = rw (k .hex) (same-found (s .number) false _ _ (λ e. absurd (false≢true e)))
 goes s B (c ∷ cs) k = go (eqb (s .high) 16) (isBlank c) (isDigit c) refl refl refl (λ B′ k′. goes (read s c) B′ cs k′)
   where

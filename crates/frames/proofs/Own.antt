@@ -1,48 +1,22 @@
 -- The number of stations that a frame has in itself.
-use mathlib.Core.Path.{_≡_, sym, ap, subst, _∙_}
+use mathlib.Core.Path.{_≡_, refl, sym, ap, subst, _∙_}
 use mathlib.Core.List.{List}
-use mathlib.Core.Bool.{true, false, true≢false}
-use Prim.Native.Nat.{ℕ, _+_, _*_, _/_, _%_, _-_, _≤_}
+use mathlib.Core.Bool.{Bool, true, false, true≢false}
+use Prim.Native.Nat.{ℕ, _+_, _*_, _≤_}
 use native.Mathlib.Omega.{arith}
-use lib.Dec.{leb, eqb}
 use lib.ListN.{length}
-use borrow.Author.Tests.{leb-true, le-leb, eqb-true, eq-eqb, ne-eqb}
-use Rattle.lists.proofs.Bools.{three, false-unless}
+use borrow.Author.Tests.{eq-eqb}
+use Rattle.lists.proofs.First.{first-is}
 use Rattle.frame.specs.Claims.{oldFrame}
-use Rattle.frame.specs.Frame.{frame, frameSize}
-use Rattle.frame.specs.Reading.{writtenCount, reading}
+use Rattle.frame.specs.Frame.{frame, frameSize, isLength}
+use Rattle.frame.specs.Reading.{writtenCount, readTests, reading}
 use Rattle.frame.proofs.Accepted.{readable}
-use Rattle.frame.proofs.Body.{length-body, length-frame}
-use Rattle.frame.proofs.OldFrames.{old-frames}
+use Rattle.frame.proofs.Body.{length-frame}
+use Rattle.frame.proofs.Lengths.{lengths, no-length, old-length}
 use Rattle.frame.proofs.Ranges.{stations-range}
 use Rattle.frame.proofs.WellFormed.{reads-well-formed}
-use Rattle.frames.specs.Claims.{Sized, ToldFrames, OwnCount, Lengths, NoLength, OldTold}
-use Rattle.frames.specs.Explained.{isLength, ownCount}
-
--- a length of frames: from 7 to 19, and odd
-pub size-is : (size : ℕ) → isLength size ≡ true → (7 ≤ size) × (size ≤ 19) × (size % 2 ≡ 1)
-unfolding isLength
-size-is size e =
-    let t = three (leb 7 size) (leb size 19) (eqb (size % 2) 1) e in
-    (leb-true _ _ (t .0), leb-true _ _ (t .1), eqb-true _ _ (t .2))
-
-is-size : (size : ℕ) → 7 ≤ size → size ≤ 19 → size % 2 ≡ 1 → isLength size ≡ true
-unfolding isLength
-is-size size low high odd = rw (le-leb 7 size low, le-leb size 19 high, eq-eqb (size % 2) 1 odd)
-
-pub lengths : Lengths
-lengths size = (
-  (λ e. let t = size-is size e in record { n = (size - 3) / 2; low = omega (arith, t .0); high = omega (arith, t .1); is = omega (arith, t .0, t .2) }),
-  (λ (s : Sized size). is-size size (omega (arith, s .is, s .low)) (omega (arith, s .is, s .high)) (omega (arith, s .is))),
-)
-
-pub no-length : NoLength
-unfolding reading
-no-length n bytes e low high =
-    rw (
-      stations-range n .1 (low, high),
-      ne-eqb (length bytes) (frameSize n) (λ i. true≢false (sym (lengths (length bytes) .1 (record { n = n; low = low; high = high; is = i })) ∙ e)),
-    )
+use Rattle.frames.specs.Claims.{ToldFrames, OwnCount, NeverAnother, OldTold}
+use Rattle.frames.specs.Explained.{ownCount}
 
 -- the third byte, where the length is that of a frame
 pub own-third : (bytes : List ℕ) → isLength (length bytes) ≡ true → writtenCount bytes ≡ ownCount bytes
@@ -65,14 +39,22 @@ told-frames bytes o = (
   (λ s. subst (λ n. reading n bytes .refusal ≡ 0) (sym (own-count (s .n) bytes (s .formed))) (reads-well-formed (s .n) bytes o .1 (s .formed))),
 )
 
--- the length of an old frame is even
-even : (sender : ℕ) (counts : List ℕ) → isLength (length (oldFrame sender counts)) ≡ false
-unfolding oldFrame
-even sender counts = false-unless _ (λ e. omega (arith, size-is (length (oldFrame sender counts)) e .2, length-body counts))
+-- what has the length of no frame is told with 17
+none-told : (bytes : List ℕ) → isLength (length bytes) ≡ false → reading (ownCount bytes) bytes .refusal ≡ 17
+none-told bytes e = subst (λ n. reading n bytes .refusal ≡ 17) (sym (own-two bytes e)) (no-length 2 bytes e (omega arith) (omega arith))
+
+pub never-another : NeverAnother
+unfolding reading
+never-another bytes = go (isLength (length bytes)) refl
+  where
+    go : (b : Bool) → isLength (length bytes) ≡ b → reading (ownCount bytes) bytes .refusal ≡ 24 → ⊥
+    go true e =
+        let own = eq-eqb (writtenCount bytes) (ownCount bytes) (own-third bytes e) in
+        first-is (λ r. r ≡ 24 → ⊥) (λ i. omega arith) (readTests (ownCount bytes) bytes) ((λ f i. omega arith), ((λ f i. omega arith), ((λ f i. omega arith), ((λ f i. true≢false (sym own ∙ f)), ((λ f i. omega arith), ((λ f i. omega arith), tt))))))
+    go false e = λ i. omega (arith, none-told bytes e)
 
 pub old-told : OldTold
-old-told sender counts =
-    subst (λ n. reading n (oldFrame sender counts) .refusal ≡ 17) (sym (own-two (oldFrame sender counts) (even sender counts))) (old-frames 2 sender counts (omega arith) (omega arith))
+old-told sender counts = none-told (oldFrame sender counts) (old-length sender counts)
 
 -- a frame that is read is for at most eight stations
 pub at-most-eight : (n : ℕ) (bytes : List ℕ) → reading n bytes .refusal ≡ 0 → n ≤ 8

@@ -2,23 +2,15 @@
 use mathlib.Core.Path.{_≡_}
 use mathlib.Core.Logic.{_↔_}
 use mathlib.Core.List.{List, [], _∷_, _++_}
-use mathlib.Core.Bool.{true, false, cond}
-use Prim.Native.Nat.{ℕ, _+_, _*_, _/_, _%_, _≤_}
-use lib.ListN.{length}
+use mathlib.Core.Bool.{true, cond}
+use Prim.Native.Nat.{ℕ, _+_, _/_, _%_}
 use lib.Dec.{ltb}
 use Rattle.frame.specs.Claims.{Octets, WellFormed, oldFrame}
 use Rattle.frame.specs.Reading.{reading}
-use Rattle.frames.specs.Explained.{isLength, ownCount, output}
+use Rattle.frames.specs.Explained.{ownCount, output}
 use Rattle.frames.specs.Hex.{spelled}
 use Rattle.frames.specs.Line.{begin, after, printed}
 use Rattle.frames.specs.declared.line.Line.{Line}
-
--- a number of stations, from 2 to 8, whose frames have this length
-pub record Sized (size : ℕ) : Type 0 where
-  pub n : ℕ
-  pub low : 2 ≤ n
-  pub high : n ≤ 8
-  pub is : size ≡ 3 + 2 * n
 
 -- bytes are told as a frame exactly when they are well formed for some number of stations, and it is the one that is told
 pub record Some (bytes : List ℕ) : Type 0 where
@@ -31,14 +23,11 @@ ToldFrames = (bytes : List ℕ) → Octets bytes → (reading (ownCount bytes) b
 abbrev pub OwnCount : Type 0
 OwnCount = (n : ℕ) (bytes : List ℕ) → WellFormed n bytes → ownCount bytes ≡ n
 
-abbrev pub Lengths : Type 0
-Lengths = (size : ℕ) → (isLength size ≡ true) ↔ Sized size
+-- 24 is not told, since n is the frame's own
+abbrev pub NeverAnother : Type 0
+NeverAnother = (bytes : List ℕ) → reading (ownCount bytes) bytes .refusal ≡ 24 → ⊥
 
--- what has the length of no frame gives 17 for every n
-abbrev pub NoLength : Type 0
-NoLength = (n : ℕ) (bytes : List ℕ) → isLength (length bytes) ≡ false → 2 ≤ n → n ≤ 8 → reading n bytes .refusal ≡ 17
-
--- so old frames are told with 17 too
+-- old frames are told with 17
 abbrev pub OldTold : Type 0
 OldTold = (sender : ℕ) (counts : List ℕ) → reading (ownCount (oldFrame sender counts)) (oldFrame sender counts) .refusal ≡ 17
 

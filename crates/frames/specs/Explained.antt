@@ -1,18 +1,14 @@
 -- What is printed for captures: a line for each line of the text.
 use mathlib.Core.List.{List, [], _∷_, _++_}
-use mathlib.Core.Bool.{Bool, cond, _&&_}
-use Prim.Native.Nat.{ℕ, _+_, _%_}
+use mathlib.Core.Bool.{cond}
+use Prim.Native.Nat.{ℕ, _+_}
 use lib.ListN.{length}
-use lib.Dec.{leb, eqb}
+use lib.Dec.{eqb}
 use Rattle.text.specs.Numbers.{newline, named, vector}
 use Rattle.text.specs.Quoted.{text}
-use Rattle.frame.specs.Frame.{frameSize}
+use Rattle.frame.specs.Frame.{isLength}
 use Rattle.frame.specs.Reading.{Reading, writtenCount, reading}
 use Rattle.frames.specs.Hex.{Spelled, spelled}
-
--- the length of a frame for 2, 3, .. or 8 stations
-unfoldable pub isLength : ℕ → Bool
-isLength size = leb (frameSize 2) size && leb size (frameSize 8) && eqb (size % 2) 1
 
 -- n as the frame has it. What has the length of no frame is read as for two stations; its length is wrong for any n.
 unfoldable pub ownCount : List ℕ → ℕ

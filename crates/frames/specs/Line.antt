@@ -4,23 +4,28 @@ use mathlib.Core.Bool.{Bool, true, false, cond, not, _&&_, _||_}
 use Prim.Native.Nat.{ℕ, _+_, _*_, _≤_}
 use lib.ListN.{take, set, replicate}
 use lib.Dec.{ltb, eqb}
+use Rattle.frame.specs.Frame.{frameSize}
 use Rattle.frames.specs.Hex.{Spelled, isBlank, digitOf, isDigit}
 use Rattle.frames.specs.Explained.{lineText}
 use Rattle.frames.specs.declared.line.Line.{Line}
 
--- a digit waits for the second one of its byte, or none does, which is 16; and at most 20 bytes are kept
+-- how many bytes of a line are kept: one more than the longest frame has, so that a longer line is not taken for it
+abbrev pub kept : ℕ
+kept = frameSize 8 + 1
+
+-- the digit that waits for the second one of its byte is one, or 16 for none; and there are no more bytes than are kept
 abbrev pub Held : Line → Type 0
-Held s = (s .high ≤ 16) × (s .size ≤ 20)
+Held s = (s .high ≤ 16) × (s .size ≤ kept)
 
 -- line k before its first character
 unfoldable pub begin : ℕ → Line
-begin k = record { number = k; begun = false; hex = true; high = 16; size = 0; bytes = replicate 20 0 }
+begin k = record { number = k; begun = false; hex = true; high = 16; size = 0; bytes = replicate kept 0 }
 
--- the line and one character more. Of more than 20 bytes the first 20 are kept: no frame has more than 19.
+-- the line and one character more
 unfoldable pub read : Line → ℕ → Line
 read s c =
     let waits : Bool = not (eqb (s .high) 16) in
-    let more : Bool = isDigit c && waits && ltb (s .size) 20 in
+    let more : Bool = isDigit c && waits && ltb (s .size) kept in
     record {
       number = s .number;
       begun = true;

@@ -6,6 +6,9 @@ ghost use Rattle.frames.specs.Line.{Held};
 ghost use Rattle.frames.specs.Line.{begin as Line·begin};
 ghost use Rattle.frames.specs.Line.{read as Line·read};
 
+// How many bytes of a line are kept: one more than the longest frame has.
+pub const KEPT: usize = 20;
+
 // A line as far as it is read.
 pub struct Line {
     // its number, from 1
@@ -19,7 +22,7 @@ pub struct Line {
     // how many bytes are kept
     pub size: usize,
     // the first bytes, zero beyond them
-    pub bytes: [u8; 20],
+    pub bytes: [u8; KEPT],
 }
 
 // Line k before its first character.
@@ -32,7 +35,7 @@ pub fn begin(k: u64) -> Line
         hex: true,
         high: 16,
         size: 0,
-        bytes: [0u8; 20],
+        bytes: [0u8; KEPT],
     }
 }
 
@@ -66,7 +69,7 @@ fn first_digit(first: bool, d: u8) -> u8
     if first { d } else { 16 }
 }
 
-// The line and one character more. Of more than 20 bytes the first 20 are kept.
+// The line and one character more.
 pub fn read(s: Line, c: u8) -> Line
     requires { ⌜ Held s ⌝ }
     ensures { λ r. ⌜ r ≡ Line·read s c ⌝ }
@@ -76,7 +79,7 @@ pub fn read(s: Line, c: u8) -> Line
     let waits = s.high != 16;
     let size = s.size;
     let mut bytes = s.bytes;
-    if digit & waits & (size < 20) {
+    if digit & waits & (size < KEPT) {
         bytes[size] = 16 * s.high + d;
         return Line {
             number: s.number,

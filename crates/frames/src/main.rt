@@ -1,12 +1,16 @@
 // Reads captured frames as hex text from standard input, one to a line, and prints what each says, or why it is no frame.
+ghost use mathlib.Core.Path.{_≡_};
 ghost use Prim.Native.Nat.{_+_, _*_, _^_, _<_, _≤_};
 ghost use lib.ListN.{length};
+ghost use Rattle.libc.specs.Io.{Moved};
+ghost use Rattle.calls.specs.Calls.{Taken};
 ghost use Rattle.frames.specs.Claims.{ended};
-ghost use Rattle.frames.specs.Line.{Held, longestLine, printed};
-ghost use Rattle.frames.specs.Moves.{Finished, Ended};
+ghost use Rattle.frames.specs.Line.{Held, longestLine, after, printed};
+ghost use Rattle.frames.specs.Moves.{brought, Finished, Ended};
 use crate::input::read_next;
 use crate::line::Line;
 use crate::line::begin;
+use crate::output::Part;
 use crate::output::tell;
 use libc::STDERR_FILENO;
 
@@ -25,6 +29,24 @@ pub enum Ran {
 
 // How often the program reads at most: 2^50 times.
 const READS: usize = 1125899906842624;
+
+// Reads the next part of the text, and prints the lines that end in it.
+fn next_part(
+    line: Line,
+    space: &mut [u8],
+    buffer: &mut [u8],
+    got: &mut isize,
+    done: &mut usize,
+    put: &mut isize,
+) -> Part
+    requires { ⌜ Held line × (line .number + length (now space) < 2 ^ 64) × (longestLine * length (now space) ≤ length (now buffer)) ⌝ }
+    ensures { λ _. ⌜ Moved (length (now (space .entry))) (now (got .exit)) ⌝ }
+    ensures { λ r. ⌜ r .line ≡ after line (brought (now (got .exit)) (now (space .exit))) ⌝ }
+    ensures { λ r. ⌜ Taken (r .whole) (now (put .exit)) (now (done .exit)) (length (printed line (brought (now (got .exit)) (now (space .exit))))) ⌝ }
+{
+    let size = read_next(space, got);
+    tell(line, &space[..size], buffer, done, put)
+}
 
 // Tells the last line, if no newline ended it.
 fn finish(line: Line, buffer: &mut [u8], done: &mut usize, put: &mut isize) -> Ran
@@ -56,14 +78,13 @@ fn run(
 {
     let mut line = begin(1);
     for _ in 0..READS {
-        let size = read_next(space, got);
+        let part = next_part(line, space, buffer, got, done, put);
         if *got < 0 {
             return Ran::NotRead;
         }
-        if size == 0 {
+        if *got == 0 {
             return finish(line, buffer, done, put);
         }
-        let part = tell(line, &space[..size], buffer, done, put);
         if !part.whole {
             return Ran::NotPrinted;
         }

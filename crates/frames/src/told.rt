@@ -59,8 +59,7 @@ fn put_answer(n: u8, r: Received, buffer: &mut [u8]) -> usize
 fn own_count(bytes: &[u8]) -> u8
     ensures { λ r. ⌜ r ≡ ownCount (now (bytes .entry)) ⌝ }
 {
-    let size = bytes.len();
-    if (7 <= size) & (size <= 19) & (size % 2 == 1) {
+    if frame::is_length(bytes.len()) {
         return bytes[2];
     }
     2

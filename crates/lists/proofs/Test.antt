@@ -1,11 +1,12 @@
 -- Laws of a test of every number.
 use mathlib.Core.Path.{_≡_, refl}
-use mathlib.Core.Bool.{Bool, true, false, _&&_, and-eq-true-iff, true≢false}
+use mathlib.Core.Bool.{Bool, true, false, not, _&&_, and-eq-true-iff, true≢false}
 use Prim.Native.Nat.{ℕ, zero, suc, _+_, _<_}
 use native.Mathlib.Numerals.{add-one}
 use native.Mathlib.Decide.{decLt}
 use native.Mathlib.Omega.{arith}
-use Rattle.lists.specs.Test.{allTo}
+use borrow.Author.Tests.{not-true, not-false}
+use Rattle.lists.specs.Test.{allTo, someTo}
 
 -- where a loop that tests begins
 pub all-none : (t : ℕ → Bool) → allTo 0 t ≡ true
@@ -62,3 +63,17 @@ pub all-same : (n : ℕ) (t u : ℕ → Bool) → ((k : ℕ) → k < n → t k �
 unfolding allTo
 all-same zero t u h = refl
 all-same (suc n) t u h = rw (all-same n t u (λ k l. h k (omega arith)), h n (omega arith))
+
+-- where it holds of one it holds of some, and the other way round
+pub some-at : (n k : ℕ) (t : ℕ → Bool) → k < n → t k ≡ true → someTo n t ≡ true
+unfolding someTo
+some-at n k t l e = rw (all-not n k (λ j. not (t j)) l (rw e))
+
+pub some-is : (n : ℕ) (t : ℕ → Bool) → someTo n t ≡ true → (k : ℕ) × (k < n) × (t k ≡ true)
+unfolding someTo
+some-is n t e = let (k, l, f) = all-fails n (λ j. not (t j)) (not-true _ e) in (k, l, not-false _ f)
+
+-- where a loop that looks for one ends, if it found none
+pub some-none : (n : ℕ) (t : ℕ → Bool) → allTo n (λ k. not (t k)) ≡ true → someTo n t ≡ false
+unfolding someTo
+some-none n t e = rw e

@@ -7,16 +7,14 @@ use native.Mathlib.Omega.{arith}
 use lib.Dec.{eqb}
 use lib.ListN.{getD}
 use borrow.Author.Needs.{needs}
-use borrow.Author.Tests.{eqb-true}
 use Rattle.lists.specs.Test.{allTo}
-use Rattle.lists.proofs.Test.{all-at}
 use Rattle.frame.specs.Frame.{frameSize}
+use Rattle.frame.proofs.Lengths.{table-rule}
 use Rattle.frame.proofs.frame_length.Statement.{statement}
 use Rattle.frame.proofs.frame_length.Tie as tie
 
--- a test of all seven entries says what each is
 rule : (table : List ℕ) (n : ℕ) → allTo 7 (λ k. eqb (getD table k 0) (frameSize (k + 2))) ≡ true → 2 ≤ n → n ≤ 8 → getD table (n - 2) 0 ≡ frameSize n
-rule table n all low high = omega (arith, eqb-true (getD table (n - 2) 0) (frameSize (n - 2 + 2)) (all-at 7 (n - 2) _ all (omega arith)))
+rule table n all low high = omega (arith, table-rule table (n - 2) all (omega arith))
 
 returns : tie.Need-returns
 unfolding allTo

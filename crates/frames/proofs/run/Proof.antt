@@ -1,13 +1,14 @@
 -- The function run meets its contract.
-use mathlib.Core.Path.{_≡_, refl, sym, _∙_}
+use mathlib.Core.Path.{_≡_, refl, _∙_}
 use Prim.Native.Nat.{_+_, _*_, _-_, _≤_, _<_}
 use native.Mathlib.Omega.{arith}
-use lib.ListN.{length, take}
+use lib.ListN.{length}
 use lib.Seq.{length-take-le}
 use borrow.Author.Needs.{needs}
 use Rattle.calls.specs.Calls.{moved}
-use Rattle.calls.proofs.Calls.{failed, ended, taken-some}
+use Rattle.calls.proofs.Calls.{moved-inside, none-came, failed, some-came, taken-some}
 use Rattle.frames.specs.Line.{Held, begin}
+use Rattle.frames.specs.Moves.{brought}
 use Rattle.frames.proofs.Ending.{ends}
 use Rattle.frames.proofs.Going.{held-after, number-after}
 use Rattle.frames.proofs.run.Statement.{statement}
@@ -25,68 +26,64 @@ loop-holds : tie.Need-loop-holds Inv-loop μ-loop
 unfolding begin
 loop-holds c = (refl, refl, rw (c .begin .ensures) (omega arith, omega arith), rw (c .begin .ensures) (omega arith), omega arith, λ h. absurd (omega arith))
 
+next-part-requires : tie.Need-next-part-requires Inv-loop μ-loop
+next-part-requires c κs =
+    let loop = c .before .before .before .before .before .before .loop in
+    let start = c .before .before .before .before .before .before .before .before .before .before in
+    (loop .inv .2, omega (arith, loop .inv .0, loop .inv .3, loop .inv .4, start .pre .1), omega (arith, loop .inv .0, loop .inv .1, start .pre .2))
+
 same-length : tie.Need-same-length Inv-loop μ-loop
-same-length c = c .before .before .before .before .read-next .kept .0 ∙ c .before .before .before .before .before .before .before .before .loop .inv .0
+same-length c = c .before .before .before .before .before .before .next-part .kept .1 .0 ∙ c .before .before .before .before .before .before .before .before .before .before .before .before .before .loop .inv .0
 
 same-length-2 : tie.Need-same-length-2 Inv-loop μ-loop
-same-length-2 c = c .before .before .before .before .before .before .before .before .loop .inv .1
+same-length-2 c = c .before .before .before .before .before .before .next-part .kept .1 .1 .0 ∙ c .before .before .before .before .before .before .before .before .before .before .before .before .before .loop .inv .1
 
 returns : tie.Need-returns Inv-loop μ-loop
-returns c = let read = c .before .before .before .before .read-next in failed _ (read .last .1 .0) (read .ensures .0) (c .before .if12 .given) (c .if1 .taken)
+returns c = let part = c .before .before .before .before .before .before .next-part in failed _ (part .last .1 .1 .1 .0) (part .ensures .0) (c .before .if12 .given) (c .if1 .taken)
 
 finish-requires : tie.Need-finish-requires Inv-loop μ-loop
 finish-requires c κs =
-    let loop = c .before .before .before .before .before .before .before .before .before .before .before .before .loop in
-    let start = c .before .before .before .before .before .before .before .before .before .before .before .before .before .before .before .before in
-    (loop .inv .2, omega (arith, loop .inv .3, loop .inv .4), omega (arith, loop .inv .1, start .pre .0, start .pre .2))
+    let part = c .before .before .before .before .before .before .before .before .before .before .before .next-part in
+    let loop = c .before .before .before .before .before .before .before .before .before .before .before .before .before .before .before .before .before .before .loop in
+    let start = c .before .before .before .before .before .before .before .before .before .before .before .before .before .before .before .before .before .before .before .before .before .before in
+    (loop .inv .2, omega (arith, loop .inv .3, loop .inv .4), omega (arith, part .kept .1 .1 .0, loop .inv .1, start .pre .0, start .pre .2))
 
 same-length-3 : tie.Need-same-length-3 Inv-loop μ-loop
-same-length-3 c = c .before .before .before .before .before .before .before .before .before .before .before .read-next .kept .0 ∙ c .before .before .before .before .before .before .before .before .before .before .before .before .before .before .before .loop .inv .0
+same-length-3 c = c .before .before .before .before .before .before .before .before .before .before .before .before .before .before .next-part .kept .1 .0 ∙ c .before .before .before .before .before .before .before .before .before .before .before .before .before .before .before .before .before .before .before .before .before .loop .inv .0
 
 same-length-4 : tie.Need-same-length-4 Inv-loop μ-loop
-same-length-4 c = c .before .before .finish .kept .1 .0 ∙ c .before .before .before .before .before .before .before .before .before .before .before .before .before .before .before .loop .inv .1
+same-length-4 c = c .before .before .finish .kept .1 .0 ∙ c .before .before .before .before .before .before .before .before .before .before .before .before .before .before .next-part .kept .1 .1 .0 ∙ c .before .before .before .before .before .before .before .before .before .before .before .before .before .before .before .before .before .before .before .before .before .loop .inv .1
 
 returns-2 : tie.Need-returns-2 Inv-loop μ-loop
 returns-2 c =
-    let read = c .before .before .before .before .before .before .before .before .before .before .before .read-next in
+    let part = c .before .before .before .before .before .before .before .before .before .before .before .before .before .before .next-part in
     let last = c .before .before .finish in
-    ends (last .result) (read .last .1 .0) (last .last .1 .1 .1 .0) (last .last .1 .1 .0) _
-    (ended (read .last .1 .0) (c .before .before .before .before .before .before .before .if1 .left) (c .before .before .before .before .before .before .before .before .if12 .given) (sym (read .ensures .1 .0) ∙ c .before .before .before .before .before .before .if2 .taken)) (last .ensures)
-
-slice-aggregate-tell : tie.Need-slice-aggregate-tell Inv-loop μ-loop
-slice-aggregate-tell c = sym (length-take-le _ _ (c .before .before .before .before .before .before .read-next .ensures .1 .1))
-
-tell-requires : tie.Need-tell-requires Inv-loop μ-loop
-tell-requires c κs =
-    let read = c .before .before .before .before .before .before .before .before .before .read-next in
-    let loop = c .before .before .before .before .before .before .before .before .before .before .before .before .before .loop in
-    let start = c .before .before .before .before .before .before .before .before .before .before .before .before .before .before .before .before .before in
-    let few : length (take (read .result) (read .last .0)) ≤ length (start .args .space .now) = omega (arith, length-take-le (read .result) (read .last .0) (read .ensures .1 .1), read .ensures .1 .1, read .kept .0, loop .inv .0) in
-    (loop .inv .2, omega (arith, loop .inv .3, loop .inv .4, few, start .pre .1), omega (arith, few, start .pre .2, loop .inv .1))
+    ends (last .result) (part .last .1 .1 .1 .0) (last .last .1 .1 .1 .0) (last .last .1 .1 .0) _ (none-came _ (part .last .1 .1 .1 .0) (part .ensures .0) (c .before .before .before .before .before .before .if2 .taken)) (last .ensures)
 
 same-length-5 : tie.Need-same-length-5 Inv-loop μ-loop
-same-length-5 c = c .before .before .before .before .before .before .before .before .before .before .before .before .before .before .read-next .kept .0 ∙ c .before .before .before .before .before .before .before .before .before .before .before .before .before .before .before .before .before .before .loop .inv .0
+same-length-5 c = c .before .before .before .before .before .before .before .before .before .before .next-part .kept .1 .0 ∙ c .before .before .before .before .before .before .before .before .before .before .before .before .before .before .before .before .before .loop .inv .0
 
 same-length-6 : tie.Need-same-length-6 Inv-loop μ-loop
-same-length-6 c = c .before .before .before .before .tell .kept .1 .1 .0 ∙ c .before .before .before .before .before .before .before .before .before .before .before .before .before .before .before .before .before .before .loop .inv .1
+same-length-6 c = c .before .before .before .before .before .before .before .before .before .before .next-part .kept .1 .1 .0 ∙ c .before .before .before .before .before .before .before .before .before .before .before .before .before .before .before .before .before .loop .inv .1
 
 returns-3 : tie.Need-returns-3 Inv-loop μ-loop
-returns-3 c = let told = c .before .before .before .before .tell in taken-some (told .result .whole) (told .last .1 .1 .1 .1 .0) (told .ensures .1) (c .if3 .taken) .0
+returns-3 c = let part = c .before .before .before .before .before .before .before .before .before .before .next-part in taken-some (part .result .whole) (part .last .1 .1 .1 .1 .1 .0) (part .ensures .1 .1) (c .if3 .taken) .0
 
 loop-again : tie.Need-loop-again Inv-loop μ-loop
 loop-again c =
-    let told = c .before .before .before .before .before .tell in
-    let read = c .before .before .before .before .before .before .before .before .before .before .before .before .before .before .before .read-next in
-    let loop = c .before .before .before .before .before .before .before .before .before .before .before .before .before .before .before .before .before .before .before .loop in
-    let start = c .before .before .before .before .before .before .before .before .before .before .before .before .before .before .before .before .before .before .before .before .before .before .before in
-    let part = take (read .result) (read .last .0) in
-    let few : length part ≤ 1024 = omega (arith, length-take-le (read .result) (read .last .0) (read .ensures .1 .1), read .ensures .1 .1, read .kept .0, loop .inv .0, start .pre .1) in (
-      read .kept .0 ∙ loop .inv .0,
-      told .kept .1 .1 .0 ∙ loop .inv .1,
-      rw (told .ensures .0) (held-after (loop .line) part (loop .inv .2)),
-      rw (told .ensures .0) (omega (arith, number-after (loop .line) part, few, loop .inv .3)),
-      omega (arith, c .before .before .before .before .before .before .before .before .before .before .before .before .before .before .before .before .before .before .loop-test .taken),
-      λ h. omega (arith, read .ensures .1 .0, c .before .before .before .before .before .before .before .before .before .before .if2 .left),
+    let part = c .before .before .before .before .before .before .before .before .before .before .before .next-part in
+    let loop = c .before .before .before .before .before .before .before .before .before .before .before .before .before .before .before .before .before .before .loop in
+    let start = c .before .before .before .before .before .before .before .before .before .before .before .before .before .before .before .before .before .before .before .before .before .before in
+    let got = part .last .1 .1 .1 .0 in
+    let bytes = brought got (part .last .1 .0) in
+    let inside = moved-inside _ got (part .ensures .0) in
+    let few : length bytes ≤ 1024 = omega (arith, length-take-le (moved got) (part .last .1 .0) (omega (arith, inside, part .kept .1 .0)), inside, loop .inv .0, start .pre .1) in (
+      part .kept .1 .0 ∙ loop .inv .0,
+      part .kept .1 .1 .0 ∙ loop .inv .1,
+      rw (part .ensures .1 .0) (held-after (loop .line) bytes (loop .inv .2)),
+      rw (part .ensures .1 .0) (omega (arith, number-after (loop .line) bytes, few, loop .inv .3)),
+      omega (arith, c .before .before .before .before .before .before .before .before .before .before .before .before .before .before .before .before .before .loop-test .taken),
+      λ h. some-came _ got (part .ensures .0) (c .before .before .before .before .before .if1 .left) (c .before .before .before .if2 .left),
     )
 
 returns-4 : tie.Need-returns-4 Inv-loop μ-loop
@@ -100,7 +97,7 @@ run-spec =
     μ-loop
     (λ c κs. search needs)
     loop-holds
-    (λ c κs. search needs)
+    next-part-requires
     same-length
     same-length-2
     returns
@@ -108,9 +105,6 @@ run-spec =
     same-length-3
     same-length-4
     returns-2
-    (λ c. c .before .before .before .before .before .read-next .ensures .1 .1)
-    slice-aggregate-tell
-    tell-requires
     same-length-5
     same-length-6
     returns-3

@@ -5,6 +5,7 @@ use Prim.Native.Nat.{_<_}
 use native.Mathlib.Omega.{arith}
 use borrow.Author.Needs.{needs}
 use Rattle.frames.specs.Hex.{digitOf}
+use Rattle.frames.specs.Line.{kept}
 use Rattle.frames.proofs.Characters.{More, more-is, read-more, read-else}
 use Rattle.frames.proofs.line.read.Statement.{statement}
 use Rattle.frames.proofs.line.read.Tie as tie
@@ -13,7 +14,7 @@ use Rattle.frames.proofs.line.read.Tie as tie
 ranges :
     (c : tie.After-struct-known2)
     → let s = c .before .before .before .before .before .args .s in
-    (c .before .before .before .before .digit-of .result < 16) × (s .high < 16) × (s .size < 20)
+    (c .before .before .before .before .digit-of .result < 16) × (s .high < 16) × (s .size < kept)
 ranges c = more-is _ _ _ (c .before .if1 .taken) (c .before .before .before .before .before .pre .0)
 
 more : (c : tie.Then1) → let a = c .before .before .before .before .args in More (digitOf (a .c)) (a .s .high) (a .s .size) ≡ true
