@@ -2,7 +2,7 @@
 use mathlib.Core.Path.{_≡_, sym, _∙_}
 use mathlib.Core.List.{List}
 use mathlib.Core.Bool.{Bool, true, false, true≢false}
-use Prim.Native.Nat.{ℕ, _+_, _-_, _≤_}
+use Prim.Native.Nat.{ℕ, _+_, _-_, _<_}
 use native.Mathlib.Omega.{arith}
 use lib.Dec.{eqb}
 use lib.ListN.{length, getD}
@@ -23,8 +23,8 @@ frame-length n sender counts buffer e =
     rw (writing-of n sender counts buffer w, length-frame, w .size)
 
 -- a test of all seven entries of a table says what each is
-pub table-rule : (table : List ℕ) (k : ℕ) → allTo 7 (λ j. eqb (getD table j 0) (frameSize (j + 2))) ≡ true → k ≤ 6 → getD table k 0 ≡ frameSize (k + 2)
-table-rule table k all h = eqb-true (getD table k 0) (frameSize (k + 2)) (all-at 7 k _ all (omega arith))
+pub table-rule : (table : List ℕ) (k : ℕ) → allTo 7 (λ j. eqb (getD table j 0) (frameSize (j + 2))) ≡ true → k < 7 → getD table k 0 ≡ frameSize (k + 2)
+table-rule table k all h = eqb-true (getD table k 0) (frameSize (k + 2)) (all-at 7 k _ all h)
 
 -- a length, compared with that for the stations at place k
 abbrev pub isAt : ℕ → ℕ → Bool

@@ -1,11 +1,8 @@
 -- The function is_length meets its contract.
 use mathlib.Core.Path.{_≡_, sym, _∙_}
-use mathlib.Core.List.{List}
 use mathlib.Core.Bool.{not, true}
-use Prim.Native.Nat.{ℕ, _+_, _-_, _≤_, _<_}
+use Prim.Native.Nat.{_+_, _-_, _≤_, _<_}
 use native.Mathlib.Omega.{arith}
-use lib.Dec.{eqb}
-use lib.ListN.{getD}
 use borrow.Author.Needs.{needs}
 use borrow.Author.Tests.{eq-eqb, ne-eqb}
 use Rattle.lists.specs.Test.{allTo}
@@ -25,23 +22,21 @@ abbrev μ-loop : tie.MeasureT-loop
 loop-holds : tie.Need-loop-holds Inv-loop μ-loop
 loop-holds c = (omega arith, all-none _)
 
--- the place of the table that is looked at has the length for its stations
-rule : (table : List ℕ) (k : ℕ) → allTo 7 (λ j. eqb (getD table j 0) (frameSize (j + 2))) ≡ true → k < 7 → getD table k 0 ≡ frameSize (k + 2)
-rule table k all h = table-rule table k all (omega arith)
-
 returns : tie.Need-returns Inv-loop μ-loop
 unfolding isLength allTo
 returns c =
     let k = c .before .before .loop .k in
-    let same : c .before .before .before .args .size ≡ frameSize (k + 2) = c .if1 .taken ∙ search (needs, rule) in
-    sym (some-at 7 k _ (search needs) (eq-eqb _ _ same))
+    let inside : k < 7 = omega (arith, c .before .loop-test .taken) in
+    let same : c .before .before .before .args .size ≡ frameSize (k + 2) = c .if1 .taken ∙ search (needs, table-rule) in
+    sym (some-at 7 k _ inside (eq-eqb _ _ same))
 
 loop-again : tie.Need-loop-again Inv-loop μ-loop
 unfolding allTo
 loop-again c =
     let k = c .before .before .loop .k in
-    let other : c .before .before .before .args .size ≡ frameSize (k + 2) → ⊥ = λ e. c .if1 .left (e ∙ sym (search (needs, rule))) in
-    (search needs, all-turn k _ (c .before .before .loop .inv .1) (rw (ne-eqb _ _ other)))
+    let inside : k < 7 = omega (arith, c .before .loop-test .taken) in
+    let other : c .before .before .before .args .size ≡ frameSize (k + 2) → ⊥ = λ e. c .if1 .left (e ∙ sym (search (needs, table-rule))) in
+    (omega arith, all-turn k _ (c .before .before .loop .inv .1) (rw (ne-eqb _ _ other)))
 
 returns-2 : tie.Need-returns-2 Inv-loop μ-loop
 unfolding isLength
