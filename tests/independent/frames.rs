@@ -91,6 +91,18 @@ impl Random {
         *own = (*own).max(1);
         (n, sender, counts)
     }
+
+    /// The same, but for a sender that is none of the stations, or counts that no frame has.
+    fn leader_but_for(&mut self, wrong_sender: bool, wrong_counts: bool) -> (u8, u8, Vec<u16>) {
+        let (n, mut sender, mut counts) = self.leader();
+        if wrong_sender {
+            sender = self.pick(&[0, n as u64 + 1, 9, 255]) as u8;
+        }
+        if wrong_counts {
+            self.spoil(sender, &mut counts);
+        }
+        (n, sender, counts)
+    }
 }
 
 fn wide(counts: &[u16]) -> Vec<u64> {
@@ -348,13 +360,7 @@ fn old_frame(random: &mut Random, tally: &mut Tally) -> Option<String> {
 fn wrong_read(random: &mut Random, tally: &mut Tally) -> Option<String> {
     for parts in 0..32 {
         let wrong = |part: u32| parts & (1 << part) != 0;
-        let (n, mut sender, mut counts) = random.leader();
-        if wrong(0) {
-            sender = random.pick(&[0, n as u64 + 1, 9, 255]) as u8;
-        }
-        if wrong(1) {
-            random.spoil(sender, &mut counts);
-        }
+        let (n, sender, counts) = random.leader_but_for(wrong(0), wrong(1));
         let written = if wrong(2) { random.other_stations(n) } else { n };
         let mut bytes = laid_out(written, sender, &counts);
         if wrong(3) {
@@ -382,13 +388,7 @@ fn wrong_read(random: &mut Random, tally: &mut Tally) -> Option<String> {
 fn wrong_write(random: &mut Random, tally: &mut Tally) -> Option<String> {
     for parts in 0..16 {
         let wrong = |part: u32| parts & (1 << part) != 0;
-        let (n, mut sender, mut counts) = random.leader();
-        if wrong(0) {
-            sender = random.pick(&[0, n as u64 + 1, 9, 255]) as u8;
-        }
-        if wrong(1) {
-            random.spoil(sender, &mut counts);
-        }
+        let (n, sender, mut counts) = random.leader_but_for(wrong(0), wrong(1));
         if wrong(2) {
             if random.percent(50) {
                 counts.pop();
