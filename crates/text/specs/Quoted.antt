@@ -5,7 +5,7 @@ use Prim.Native.Char.{code}
 use Prim.Native.String.{String}
 use Prim.Native.String as string
 
--- the characters of a text by their codes; those of the listing are ASCII
+-- the characters of a text by their codes, which are bytes where the text is ASCII
 unfoldable pub text : String → List ℕ
 text string.[] = []
 text (string._∷_ c s) = code c ∷ text s
