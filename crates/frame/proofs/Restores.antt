@@ -2,18 +2,14 @@
 use mathlib.Core.Path.{_∙_}
 use Rattle.lists.proofs.Entries.{take-over}
 use Rattle.frame.specs.Claims.{ReadRestores, WriteRestores}
-use Rattle.frame.specs.Frame.{frame}
 use Rattle.frame.proofs.Accepted.{readable, reading-of, writable, writing-of}
-use Rattle.frame.proofs.Body.{length-countsOf, countsOf-frame}
-use Rattle.frame.proofs.WellFormed.{frame-countsOf, readable-frame}
+use Rattle.frame.proofs.Body.{length-countsOf}
+use Rattle.frame.proofs.WellFormed.{frame-countsOf, reading-frame}
 
 pub read-restores : ReadRestores
-unfolding frame
 read-restores n sender counts buffer e =
     let w = writable n sender counts buffer e in
-    rw (writing-of n sender counts buffer w, take-over)
-    (reading-of n _ (readable-frame n sender counts (w .stations) (w .size) (w .sender-in) (w .counts-in))
-    ∙ rw (countsOf-frame n sender counts (w .size)))
+    rw (writing-of n sender counts buffer w, take-over) (reading-frame n sender counts (w .stations) (w .size) (w .sender-in) (w .counts-in))
 
 pub write-restores : WriteRestores
 write-restores n bytes buffer o e h =

@@ -4,8 +4,9 @@ use mathlib.Core.List.{List}
 use mathlib.Core.Bool.{true}
 use Prim.Native.Nat.{ℕ}
 use native.Mathlib.Omega.{arith}
-use lib.ListN.{length}
+use lib.ListN.{length, replicate}
 use lib.Seq.{take-all}
+use Rattle.lists.specs.Entries.{over}
 use Rattle.frame.specs.Claims.{Octets, WellFormed, ReadsWellFormed}
 use Rattle.frame.specs.Frame.{frame, frameSize, stationsIn, senderIn, countsIn}
 use Rattle.frame.specs.Reading.{Reading, countsOf, senderOf, reading}
@@ -30,6 +31,17 @@ readable-frame n sender counts a b c d =
       counts = rw (countsOf-frame n sender counts b) d;
     }
 
+pub reading-frame :
+    (n sender : ℕ) (counts : List ℕ) → stationsIn n ≡ true → length counts ≡ n → senderIn n sender ≡ true → countsIn sender counts ≡ true
+    → reading n (frame n sender counts) ≡ record { refusal = 0; sender = sender; counts = over counts (replicate 8 0) }
+unfolding frame
+reading-frame n sender counts a b c d = reading-of n _ (readable-frame n sender counts a b c d) ∙ rw (countsOf-frame n sender counts b)
+
+-- so what is well formed is read as what it is the frame of
+pub reading-formed : (n : ℕ) (bytes : List ℕ) (w : WellFormed n bytes) → reading n bytes ≡ record { refusal = 0; sender = w .sender; counts = over (w .counts) (replicate 8 0) }
+reading-formed n bytes w =
+    rw (w .is-frame) (reading-frame n _ _ (stations-range n .1 (w .stations)) (w .size) (sender-range n _ .1 (w .sender-in)) (counts-range _ _ .1 (w .counts-in, w .own)))
+
 pub reads-well-formed : ReadsWellFormed
 reads-well-formed n bytes o = (formed, read)
   where
@@ -49,8 +61,4 @@ reads-well-formed n bytes o = (formed, read)
         }
 
     read : WellFormed n bytes → reading n bytes .refusal ≡ 0
-    read w =
-        rw (w .is-frame)
-        (ap (λ (x : Reading). x .refusal)
-        (reading-of n _
-        (readable-frame n _ _ (stations-range n .1 (w .stations)) (w .size) (sender-range n _ .1 (w .sender-in)) (counts-range _ _ .1 (w .counts-in, w .own)))))
+    read w = ap (λ (x : Reading). x .refusal) (reading-formed n bytes w)

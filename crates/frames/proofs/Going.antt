@@ -15,19 +15,19 @@ use Rattle.text.specs.Wrote.{Wrote}
 use Rattle.text.proofs.Parts.{wrote-part, wrote-length}
 use Rattle.frames.specs.Claims.{Parts, ended}
 use Rattle.frames.specs.Hex.{digitOf, isDigit}
-use Rattle.frames.specs.Line.{Held, kept, begin, read, longestLine, moved, toldAt, after, printed}
+use Rattle.frames.specs.Line.{Held, kept, begin, read, longestLine, stepped, toldAt, after, printed}
 use Rattle.frames.specs.declared.line.Line.{Line}
 use Rattle.frames.proofs.Room.{line-room}
 
 pub after-append : (s : Line) (a b : List ℕ) → after s (a ++ b) ≡ after (after s a) b
 unfolding after
 after-append s [] b = refl
-after-append s (c ∷ a) b = after-append (moved s c) a b
+after-append s (c ∷ a) b = after-append (stepped s c) a b
 
 pub printed-append : (s : Line) (a b : List ℕ) → printed s (a ++ b) ≡ printed s a ++ printed (after s a) b
 unfolding after printed
 printed-append s [] b = refl
-printed-append s (c ∷ a) b = rw (printed-append (moved s c) a b) (sym (append-assoc (toldAt s c) (printed (moved s c) a) (printed (after (moved s c) a) b)))
+printed-append s (c ∷ a) b = rw (printed-append (stepped s c) a b) (sym (append-assoc (toldAt s c) (printed (stepped s c) a) (printed (after (stepped s c) a) b)))
 
 printed-one : (s : Line) (c : ℕ) → printed s (c ∷ []) ≡ toldAt s c
 unfolding printed
@@ -55,23 +55,23 @@ held-read s c h = (
     both-first true b e = refl
     both-first false b e = e
 
-held-moved : (s : Line) (c : ℕ) → Held s → Held (moved s c)
-unfolding moved begin
-held-moved s c h = cond-elim Held (eqb c 10) (λ e. (omega arith, omega arith)) (λ e. held-read s c h)
+held-stepped : (s : Line) (c : ℕ) → Held s → Held (stepped s c)
+unfolding stepped begin
+held-stepped s c h = cond-elim Held (eqb c 10) (λ e. (omega arith, omega arith)) (λ e. held-read s c h)
 
 pub held-after : (s : Line) (cs : List ℕ) → Held s → Held (after s cs)
 unfolding after
 held-after s [] h = h
-held-after s (c ∷ cs) h = held-after (moved s c) cs (held-moved s c h)
+held-after s (c ∷ cs) h = held-after (stepped s c) cs (held-stepped s c h)
 
-number-moved : (s : Line) (c : ℕ) → moved s c .number ≤ s .number + 1
-unfolding moved begin read
-number-moved s c = cond-elim (λ (x : Line). x .number ≤ s .number + 1) (eqb c 10) (λ e. omega arith) (λ e. omega arith)
+number-stepped : (s : Line) (c : ℕ) → stepped s c .number ≤ s .number + 1
+unfolding stepped begin read
+number-stepped s c = cond-elim (λ (x : Line). x .number ≤ s .number + 1) (eqb c 10) (λ e. omega arith) (λ e. omega arith)
 
 pub number-after : (s : Line) (cs : List ℕ) → after s cs .number ≤ s .number + length cs
 unfolding after
 number-after s [] = omega arith
-number-after s (c ∷ cs) = omega (arith, number-after (moved s c) cs, number-moved s c)
+number-after s (c ∷ cs) = omega (arith, number-after (stepped s c) cs, number-stepped s c)
 
 -- nor is more printed than a line for each
 told-room : (s : Line) (c : ℕ) → length (toldAt s c) ≤ longestLine
@@ -81,7 +81,7 @@ told-room s c = cond-elim (λ (l : List ℕ). length l ≤ longestLine) (eqb c 1
 pub printed-room : (s : Line) (cs : List ℕ) → length (printed s cs) ≤ longestLine * length cs
 unfolding printed
 printed-room s [] = omega arith
-printed-room s (c ∷ cs) = omega (arith, length-append (toldAt s c) (printed (moved s c) cs), told-room s c, printed-room (moved s c) cs)
+printed-room s (c ∷ cs) = omega (arith, length-append (toldAt s c) (printed (stepped s c) cs), told-room s c, printed-room (stepped s c) cs)
 
 -- a loop that takes the characters one by one: where it stands
 pub record Stands (first : Line) (bytes old : List ℕ) (k : ℕ) (s : Line) (at : ℕ) (b : List ℕ) : Type 0 where
@@ -124,7 +124,7 @@ module _ {first : Line} {bytes old : List ℕ} {k : ℕ} {s : Line} {at : ℕ} {
   pub stands-number : s .number ≤ first .number + k
   stands-number = rw (now .line) (omega (arith, number-after first (take k bytes), length-take-le k bytes (omega arith)))
 
-  pub stands-turn : {s′ : Line} {r : ℕ} {ys : List ℕ} → s′ ≡ moved s (getD bytes k 0) → Wrote (toldAt s (getD bytes k 0)) (take (length b - at) (drop at b)) r ys → Stands first bytes old (k + 1) s′ (at + r) (putMid at (length b - at) b ys)
+  pub stands-turn : {s′ : Line} {r : ℕ} {ys : List ℕ} → s′ ≡ stepped s (getD bytes k 0) → Wrote (toldAt s (getD bytes k 0)) (take (length b - at) (drop at b)) r ys → Stands first bytes old (k + 1) s′ (at + r) (putMid at (length b - at) b ys)
   unfolding after
   stands-turn {s′} {r} {ys} e w = record {
     line = e ∙ rw (now .line, add-one k, take-suc bytes k 0 l) (sym (after-append first (take k bytes) (getD bytes k 0 ∷ [])));

@@ -4,9 +4,12 @@ use mathlib.Core.List.{List}
 use mathlib.Core.Bool.{Bool, true, false, true≢false}
 use Prim.Native.Nat.{ℕ, _+_, _*_, _≤_}
 use native.Mathlib.Omega.{arith}
-use lib.ListN.{length}
+use lib.ListN.{length, replicate}
 use borrow.Author.Tests.{eq-eqb}
+use Rattle.lists.specs.Entries.{over}
+use Rattle.lists.proofs.Entries.{over-front}
 use Rattle.lists.proofs.First.{first-is}
+use Rattle.text.proofs.Same.{vector-same}
 use Rattle.frame.specs.Claims.{oldFrame}
 use Rattle.frame.specs.Frame.{frame, frameSize, isLength}
 use Rattle.frame.specs.Reading.{writtenCount, readTests, reading}
@@ -14,9 +17,9 @@ use Rattle.frame.proofs.Accepted.{readable}
 use Rattle.frame.proofs.Body.{length-frame}
 use Rattle.frame.proofs.Lengths.{lengths, no-length, old-length}
 use Rattle.frame.proofs.Ranges.{stations-range}
-use Rattle.frame.proofs.WellFormed.{reads-well-formed}
-use Rattle.frames.specs.Claims.{ToldFrames, OwnCount, NeverAnother, OldTold}
-use Rattle.frames.specs.Explained.{ownCount}
+use Rattle.frame.proofs.WellFormed.{reading-formed, reads-well-formed}
+use Rattle.frames.specs.Claims.{ToldFrames, FrameTold, OwnCount, NeverAnother, OldTold}
+use Rattle.frames.specs.Explained.{ownCount, counted, received, answered}
 
 -- the third byte, where the length is that of a frame
 pub own-third : (bytes : List ℕ) → isLength (length bytes) ≡ true → writtenCount bytes ≡ ownCount bytes
@@ -38,6 +41,11 @@ told-frames bytes o = (
   (λ e. record { n = ownCount bytes; formed = reads-well-formed (ownCount bytes) bytes o .0 e }),
   (λ s. subst (λ n. reading n bytes .refusal ≡ 0) (sym (own-count (s .n) bytes (s .formed))) (reads-well-formed (s .n) bytes o .1 (s .formed))),
 )
+
+pub frame-told : FrameTold
+unfolding answered received counted
+frame-told n bytes w =
+    rw (own-count n bytes w, reading-formed n bytes w, vector-same n (over (w .counts) (replicate 8 0)) (w .counts) (λ k l. over-front (w .counts) (replicate 8 0) k 0 (omega (arith, w .size))))
 
 -- what has the length of no frame is told with 17
 none-told : (bytes : List ℕ) → isLength (length bytes) ≡ false → reading (ownCount bytes) bytes .refusal ≡ 17

@@ -7,7 +7,7 @@ use lib.Dec.{eqb}
 use Rattle.frames.specs.Claims.{ended, Whole}
 use Rattle.frames.specs.Explained.{lineText, linesFrom, explained, output}
 use Rattle.frames.specs.Hex.{spelled}
-use Rattle.frames.specs.Line.{begin, read, told, moved, toldAt, after, printed}
+use Rattle.frames.specs.Line.{begin, read, told, stepped, toldAt, after, printed}
 use Rattle.frames.specs.declared.line.Line.{Line}
 use Rattle.frames.proofs.Kept.{readAll, whole-line}
 
@@ -31,21 +31,21 @@ read-begun s (c ∷ cs) e = read-begun (read s c) cs refl
 abbrev all : Line → List ℕ → List ℕ
 all s cs = printed s cs ++ printed (after s cs) (ended (after s cs))
 
-all-next : (s : Line) (c : ℕ) (cs : List ℕ) → all s (c ∷ cs) ≡ toldAt s c ++ all (moved s c) cs
+all-next : (s : Line) (c : ℕ) (cs : List ℕ) → all s (c ∷ cs) ≡ toldAt s c ++ all (stepped s c) cs
 unfolding after printed
-all-next s c cs = append-assoc (toldAt s c) (printed (moved s c) cs) _
+all-next s c cs = append-assoc (toldAt s c) (printed (stepped s c) cs) _
 
 all-end : (s : Line) → s .begun ≡ true → all s [] ≡ told s
 unfolding after printed toldAt
 all-end s e = rw e (append-nil (told s))
 
 -- a newline, and another character
-ends : (s : Line) (c : ℕ) (cs : List ℕ) → eqb c 10 ≡ true → toldAt s c ++ all (moved s c) cs ≡ told s ++ all (begin (s .number + 1)) cs
-unfolding toldAt moved
+ends : (s : Line) (c : ℕ) (cs : List ℕ) → eqb c 10 ≡ true → toldAt s c ++ all (stepped s c) cs ≡ told s ++ all (begin (s .number + 1)) cs
+unfolding toldAt stepped
 ends s c cs e = rw e
 
-goes-on : (s : Line) (c : ℕ) (cs : List ℕ) → eqb c 10 ≡ false → toldAt s c ++ all (moved s c) cs ≡ all (read s c) cs
-unfolding toldAt moved
+goes-on : (s : Line) (c : ℕ) (cs : List ℕ) → eqb c 10 ≡ false → toldAt s c ++ all (stepped s c) cs ≡ all (read s c) cs
+unfolding toldAt stepped
 goes-on s c cs e = rw e
 
 goes : (k : ℕ) (line cs : List ℕ) → all (readAll (begin k) line) cs ≡ explained k (linesFrom line cs)
@@ -60,7 +60,7 @@ goes k line (c ∷ cs) = all-next s c cs ∙ go (eqb c 10) refl (goes (k + 1) []
 
     go :
         (b : Bool) → eqb c 10 ≡ b → all (readAll (begin (k + 1)) []) cs ≡ explained (k + 1) (linesFrom [] cs) → all (readAll (begin k) (line ++ (c ∷ []))) cs ≡ explained k (linesFrom (line ++ (c ∷ [])) cs)
-        → toldAt s c ++ all (moved s c) cs ≡ explained k (cond b (line ∷ linesFrom [] cs) (linesFrom (line ++ (c ∷ [])) cs))
+        → toldAt s c ++ all (stepped s c) cs ≡ explained k (cond b (line ∷ linesFrom [] cs) (linesFrom (line ++ (c ∷ [])) cs))
     go true e next more =
         ends s c cs e
         ∙ ap (λ n. told s ++ all (begin (n + 1)) cs) (read-number (begin k) line)

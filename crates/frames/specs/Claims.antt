@@ -7,18 +7,22 @@ use Prim.Native.Nat.{ℕ, _+_, _/_, _%_}
 use lib.Dec.{ltb}
 use Rattle.frame.specs.Claims.{Octets, WellFormed, oldFrame}
 use Rattle.frame.specs.Reading.{reading}
-use Rattle.frames.specs.Explained.{ownCount, output}
+use Rattle.frames.specs.Explained.{ownCount, received, frameText, output}
 use Rattle.frames.specs.Hex.{spelled}
 use Rattle.frames.specs.Line.{begin, after, printed}
 use Rattle.frames.specs.declared.line.Line.{Line}
 
--- bytes are told as a frame exactly when they are well formed for some number of stations, and it is the one that is told
+-- bytes are told as a frame exactly when they are well formed for some number of stations
 pub record Some (bytes : List ℕ) : Type 0 where
   pub n : ℕ
   pub formed : WellFormed n bytes
 
 abbrev pub ToldFrames : Type 0
 ToldFrames = (bytes : List ℕ) → Octets bytes → (reading (ownCount bytes) bytes .refusal ≡ 0) ↔ Some bytes
+
+-- which is the one that is told, with the sender and the counts
+abbrev pub FrameTold : Type 0
+FrameTold = (n : ℕ) (bytes : List ℕ) (w : WellFormed n bytes) → frameText bytes ≡ received n (w .sender) (w .counts)
 
 abbrev pub OwnCount : Type 0
 OwnCount = (n : ℕ) (bytes : List ℕ) → WellFormed n bytes → ownCount bytes ≡ n

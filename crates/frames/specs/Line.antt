@@ -47,8 +47,8 @@ abbrev pub longestLine : ℕ
 longestLine = 256
 
 -- a newline ends the line, which is told, and begins the next
-unfoldable pub moved : Line → ℕ → Line
-moved s c = cond (eqb c 10) (begin (s .number + 1)) (read s c)
+unfoldable pub stepped : Line → ℕ → Line
+stepped s c = cond (eqb c 10) (begin (s .number + 1)) (read s c)
 
 unfoldable pub toldAt : Line → ℕ → List ℕ
 toldAt s c = cond (eqb c 10) (told s) []
@@ -56,8 +56,8 @@ toldAt s c = cond (eqb c 10) (told s) []
 -- the line that some bytes leave, and what is printed for them
 unfoldable pub after : Line → List ℕ → Line
 after s [] = s
-after s (c ∷ cs) = after (moved s c) cs
+after s (c ∷ cs) = after (stepped s c) cs
 
 unfoldable pub printed : Line → List ℕ → List ℕ
 printed s [] = []
-printed s (c ∷ cs) = toldAt s c ++ printed (moved s c) cs
+printed s (c ∷ cs) = toldAt s c ++ printed (stepped s c) cs

@@ -5,7 +5,7 @@ ghost use lib.ListN.{length};
 ghost use Rattle.text.specs.Wrote.{Wrote};
 ghost use Rattle.frame.specs.Reading.{said};
 ghost use Rattle.frames.specs.Explained.{ownCount, counted, received, answered, frameText, found};
-ghost use Rattle.frames.specs.Line.{Held, spells, told, longestLine, moved, toldAt, after, printed};
+ghost use Rattle.frames.specs.Line.{Held, spells, told, longestLine, stepped, toldAt, after, printed};
 use crate::line::Line;
 use crate::line::begin;
 use crate::line::read;
@@ -107,7 +107,7 @@ pub struct Fed {
 // Takes one character. A newline ends the line, which is told, and begins the next.
 fn step(s: Line, c: u8, buffer: &mut [u8]) -> Fed
     requires { ⌜ Held s × (s .number + 1 < 2 ^ 64) × (longestLine ≤ length (now buffer)) ⌝ }
-    ensures { λ r. ⌜ r .line ≡ moved s c ⌝ }
+    ensures { λ r. ⌜ r .line ≡ stepped s c ⌝ }
     ensures { λ r. ⌜ Wrote (toldAt s c) (now (buffer .entry)) (r .size) (now (buffer .exit)) ⌝ }
 {
     if c == 10 {
