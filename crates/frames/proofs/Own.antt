@@ -1,4 +1,4 @@
--- The number of stations that a frame has in itself.
+-- The number of stations that a frame has in itself, and what is told of it.
 use mathlib.Core.Path.{_≡_, refl, sym, ap, subst, _∙_}
 use mathlib.Core.List.{List}
 use mathlib.Core.Bool.{Bool, true, false, true≢false}

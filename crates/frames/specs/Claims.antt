@@ -24,6 +24,7 @@ ToldFrames = (bytes : List ℕ) → Octets bytes → (reading (ownCount bytes) b
 abbrev pub FrameTold : Type 0
 FrameTold = (n : ℕ) (bytes : List ℕ) (w : WellFormed n bytes) → frameText bytes ≡ received n (w .sender) (w .counts)
 
+-- it is found in the frame
 abbrev pub OwnCount : Type 0
 OwnCount = (n : ℕ) (bytes : List ℕ) → WellFormed n bytes → ownCount bytes ≡ n
 
