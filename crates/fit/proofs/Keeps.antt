@@ -70,6 +70,15 @@ joined-counts n v w k e f g i h =
 abbrev pub Next : ℕ → ℕ → ℕ → ℕ → Type 0
 Next period tick q q′ = (q < q′) ⊎ ((q ≡ q′) × (period ≤ min (tick - 1) flight))
 
+-- a leader heard by q's message or before it was heard before the next
+pub before-next : (period tick q q′ : ℕ) (x : Station) → (x .leader ≡ q) ⊎ Before period tick q x → Next period tick q q′ → Before period tick q′ x
+before-next period tick q q′ x (inl a) (inl b) = inl (omega arith)
+before-next period tick q q′ x (inl a) (inr b) = inr (a ∙ b .0, b .1)
+before-next period tick q q′ x (inr (inl a)) (inl b) = inl (omega arith)
+before-next period tick q q′ x (inr (inl a)) (inr b) = inl (let y : q ≡ q′ = b .0 in omega arith)
+before-next period tick q q′ x (inr (inr a)) (inl b) = inl (let y : x .leader ≡ q = a .0 in omega arith)
+before-next period tick q q′ x (inr (inr a)) (inr b) = inr (a .0 ∙ b .0, a .1)
+
 -- a timer that was set in this tick runs for another station
 pub set-other : (ranks : List ℕ) (me tick : ℕ) (s : Station) → JustSet ranks me tick s → s .leader ≢ me
 set-other ranks me tick s j e =
@@ -97,6 +106,7 @@ module _ (ranks : List ℕ) (me n period tick q : ℕ) (v : List ℕ) (s : Stati
           leader-high = high;
           counts = joined-counts n (s .recovered) v k e (l .counts) (h .message .counts);
           own = omega (arith, l .own);
+          flash = l .flash;
         };
         timeouts = h .stands .timeouts;
         slot-low = h .stands .slot-low;
@@ -138,17 +148,9 @@ hear-keeps ranks me n period tick q q′ v v′ s e nx m =
     let (k, st, t) = heard-after ranks me n period tick q v s h in
     of-hearing ranks me n period tick q′ v′ (heard ranks me q v tick s) (record { values = h .values; ranked = h .ranked; kept = k; message = message-of me n q′ v′ m; stands = st; timer = ran t })
   where
-    later : (x : Station) → (x .leader ≡ q) ⊎ Before period tick q x → Next period tick q q′ → Before period tick q′ x
-    later x (inl a) (inl b) = inl (omega arith)
-    later x (inl a) (inr b) = inr (a ∙ b .0, b .1)
-    later x (inr (inl a)) (inl b) = inl (omega arith)
-    later x (inr (inl a)) (inr b) = inl (let y : q ≡ q′ = b .0 in omega arith)
-    later x (inr (inr a)) (inl b) = inl (let y : x .leader ≡ q = a .0 in omega arith)
-    later x (inr (inr a)) (inr b) = inr (a .0 ∙ b .0, a .1)
-
     ran : Timer me (tick - 1) (heard ranks me q v tick s) ⊎ (JustSet ranks me tick (heard ranks me q v tick s) × ((heard ranks me q v tick s .leader ≡ q) ⊎ Before period tick q (heard ranks me q v tick s))) → Timer me (tick - 1) (heard ranks me q v tick s) ⊎ (JustSet ranks me tick (heard ranks me q v tick s) × Before period tick q′ (heard ranks me q v tick s))
     ran (inl t) = inl t
-    ran (inr t) = inr (t .0, later (heard ranks me q v tick s) (t .1) nx)
+    ran (inr t) = inr (t .0, before-next period tick q q′ (heard ranks me q v tick s) (t .1) nx)
 
 module _ (ranks : List ℕ) (me n period tick : ℕ) (s : Station) where
   -- a timer that has not ended runs on
@@ -211,7 +213,7 @@ module _ (ranks : List ℕ) (me n period tick : ℕ) (s : Station) where
       (of-fit me n period tick _ r
       (record { few = x .kept .few; low = cond-elim (λ y. 1 ≤ y) (s .recovering) (λ i. l .leader-low) (λ i. x .kept .low); high = cond-elim (λ y. y ≤ n) (s .recovering) (λ i. l .leader-high) (λ i. x .kept .high) })
       (record {
-        living = record { up = l .up; count = l .count; leader-low = l .leader-low; leader-high = l .leader-high; counts = l .counts; own = l .own };
+        living = record { up = l .up; count = l .count; leader-low = l .leader-low; leader-high = l .leader-high; counts = l .counts; own = l .own; flash = l .flash };
         timeouts = highest (x .timer);
         slot-low = omega (arith, r .period-low);
         slot-high = omega arith;
@@ -262,7 +264,7 @@ module _ (me n period tick : ℕ) (s : Station) (x : Expiring me n period tick s
   living-with : (t : List ℕ) → Alive me n (waiting me 0 t s)
   living-with t =
       let l : Alive me n s = x .stands .living in
-      record { up = l .up; count = l .count; leader-low = values .me-low; leader-high = values .me-high; counts = l .counts; own = l .own }
+      record { up = l .up; count = l .count; leader-low = values .me-low; leader-high = values .me-high; counts = l .counts; own = l .own; flash = l .flash }
 
   stopped : (t : List ℕ) (now : ℕ) → Timer me now (waiting me 0 t s)
   stopped t now = record { off = λ e. refl; on = λ ne. absurd (ne refl) }
@@ -330,7 +332,7 @@ module _ (me n period tick : ℕ) (s : Station) where
       of-fit me n period tick (startedWith me period tick v t s) r
       (record { few = omega arith; low = k .low; high = k .high })
       (record {
-        living = record { up = refl; count = omega arith; leader-low = k .low; leader-high = k .high; counts = counts r v own zero; own = omega arith };
+        living = record { up = refl; count = omega arith; leader-low = k .low; leader-high = k .high; counts = counts r v own zero; own = omega arith; flash = refl };
         timeouts = record { others = λ i l o. (omega (arith, waits i l o), omega (arith, waits i l o, r .period-high)); rest = λ i l o. times i l ∙ ap (λ z. cond z (period + (s .incarnation + 1)) 0) o };
         slot-low = omega (arith, r .period-low);
         slot-high = omega arith;

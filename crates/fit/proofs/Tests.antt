@@ -9,11 +9,11 @@ use native.Mathlib.Omega.{arith}
 use lib.ListN.{getD}
 use lib.Dec.{leb, ltb, eqb}
 use borrow.Author.Tests.{ltb-true, leb-true, eqb-true, lt-ltb, le-leb, eq-eqb, ne-eqb}
-use Rattle.lists.proofs.Bools.{both, three, five}
+use Rattle.lists.proofs.Bools.{both, three, six}
 use Rattle.lists.proofs.Test.{all-at, all-of}
 use Rattle.station.specs.Order.{entry}
 use Rattle.station.specs.Rules.{other}
-use Rattle.fit.specs.Fit.{within, ranges, keptIn, cleared, countIn, countsIn, rankIn, ranksIn, timeoutIn, timeoutsIn, alive, slotIn, timerIn, standing, fit}
+use Rattle.fit.specs.Fit.{within, ranges, keptIn, clockless, cleared, countIn, countsIn, rankIn, ranksIn, timeoutIn, timeoutsIn, alive, slotIn, timerIn, standing, fit}
 use Rattle.station.specs.Limits.{mostStarts, mostRank, longest}
 use Rattle.station.specs.declared.Station.{Station}
 use Rattle.station.proofs.Candidates.{Ranked}
@@ -125,12 +125,13 @@ pub record Alive (me n : ℕ) (s : Station) : Type 0 where
   pub leader-high : s .leader ≤ n
   pub counts : Counts n (s .recovered)
   pub own : 1 ≤ entry (s .recovered) me
+  pub flash : clockless s ≡ true
 
 module _ (me n : ℕ) (s : Station) where
   pub alive-of : alive me n s ≡ true → Alive me n s
   unfolding alive
   alive-of e =
-      let (u, c, l, v, o) = five (s .up) (leb 1 (s .incarnation)) (within 1 (s .leader) n) (countsIn n (s .recovered)) (leb 1 (entry (s .recovered) me)) e in
+      let (u, c, l, v, o, z) = six (s .up) (leb 1 (s .incarnation)) (within 1 (s .leader) n) (countsIn n (s .recovered)) (leb 1 (entry (s .recovered) me)) (clockless s) e in
       let (low, high) = within-of 1 (s .leader) n l in
       record {
         up = u;
@@ -139,12 +140,19 @@ module _ (me n : ℕ) (s : Station) where
         leader-high = high;
         counts = counts-of n (s .recovered) v;
         own = leb-true 1 (entry (s .recovered) me) o;
+        flash = z;
       }
 
   pub of-alive : Alive me n s → alive me n s ≡ true
   unfolding alive
   of-alive a =
-      rw (a .up, le-leb 1 (s .incarnation) (a .count), of-within 1 (s .leader) n (a .leader-low) (a .leader-high), of-counts n (s .recovered) (a .counts), le-leb 1 (entry (s .recovered) me) (a .own))
+      rw (a .up, le-leb 1 (s .incarnation) (a .count), of-within 1 (s .leader) n (a .leader-low) (a .leader-high), of-counts n (s .recovered) (a .counts), le-leb 1 (entry (s .recovered) me) (a .own), a .flash)
+
+-- a flash head has no stamp, no lowest one and no timeout of a clock head
+pub flash-fields : (s : Station) → clockless s ≡ true → (s .stamp ≡ 0) × (s .lowest ≡ 0) × (s .timeout ≡ 0)
+flash-fields s e =
+    let (a, b, c) = three (eqb (s .stamp) 0) (eqb (s .lowest) 0) (eqb (s .timeout) 0) e in
+    (eqb-true (s .stamp) 0 a, eqb-true (s .lowest) 0 b, eqb-true (s .timeout) 0 c)
 
 -- a timer is off where the station trusts itself, and on otherwise
 pub record Timer (me tick : ℕ) (s : Station) : Type 0 where

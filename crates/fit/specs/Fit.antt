@@ -1,4 +1,4 @@
--- What a sound system can hand to a station operation: the clauses of soundness about one station, and what comes up in a tick.
+-- What a sound system can hand to an operation of a head with flash: the clauses of soundness about one station, and what comes up in a tick.
 use mathlib.Core.List.{List}
 use mathlib.Core.Bool.{Bool, cond, not, _&&_, _||_}
 use Prim.Native.Nat.{ℕ, _+_, _-_, min}
@@ -52,15 +52,22 @@ timeoutIn me n period high k x = cond (other me n k) (within period x high) (eqb
 unfoldable pub timeoutsIn : ℕ → ℕ → ℕ → ℕ → List ℕ → Bool
 timeoutsIn me n period high t = allTo 8 (λ k. timeoutIn me n period high k (getD t k 0))
 
--- what a down station lost is zero: with no stations, every entry lies beyond them
+-- no counts and no timeouts: with no stations, every entry lies beyond them
+unfoldable pub vectorless : Station → Bool
+vectorless s = countsIn 0 (s .recovered) && timeoutsIn 0 0 0 0 (s .timeouts)
+
+-- the fields of a head with a running clock are zero
+abbrev pub clockless : Station → Bool
+clockless s = eqb (s .stamp) 0 && eqb (s .lowest) 0 && eqb (s .timeout) 0
+
+-- what a down station lost is zero
 unfoldable pub cleared : Station → Bool
-cleared s =
-    eqb (s .leader) 0 && eqb (s .timer) 0 && eqb (s .slot) 0 && not (s .recovering)
-    && (countsIn 0 (s .recovered) && timeoutsIn 0 0 0 0 (s .timeouts))
+cleared s = eqb (s .leader) 0 && eqb (s .timer) 0 && eqb (s .slot) 0 && not (s .recovering) && (vectorless s && clockless s)
 
 -- a station that is up, with its count, own entry, leader and counts
 unfoldable pub alive : ℕ → ℕ → Station → Bool
-alive me n s = s .up && leb 1 (s .incarnation) && within 1 (s .leader) n && countsIn n (s .recovered) && leb 1 (entry (s .recovered) me)
+alive me n s =
+    s .up && leb 1 (s .incarnation) && within 1 (s .leader) n && countsIn n (s .recovered) && leb 1 (entry (s .recovered) me) && clockless s
 
 -- the next send chance is after the tick by at most period + 4095
 unfoldable pub slotIn : ℕ → ℕ → Station → Bool

@@ -1,2 +1,2 @@
--- What a sound table can hand to one station.
+-- What a sound table can hand to one station, a head with flash.
 pub mod Fit

@@ -1,10 +1,10 @@
-// Whether a sound system could hand over a station: the tests behind refusal 15. No sum in them wraps.
+// Whether a sound system could hand over a station, a head with flash: the tests behind refusal 15. No sum in them wraps.
 ghost use mathlib.Core.Path.{_≡_};
 ghost use mathlib.Core.Bool.{cond};
 ghost use Prim.Native.Nat.{_+_, _-_, _<_, _≤_, min};
 ghost use lib.Dec.{eqb};
 ghost use Rattle.station.specs.Rules.{other};
-ghost use Rattle.fit.specs.Fit.{within, ranges, keptIn, cleared, countIn, countsIn, rankIn, ranksIn, timeoutIn, timeoutsIn, alive, slotIn, timerIn, standing, fit, justSet, timeoutsAt, fitStart, fitCrash, fitExpire, inTick, fitMessage, heardBefore, fitHear, unended, ended, fitSlot};
+ghost use Rattle.fit.specs.Fit.{within, ranges, keptIn, vectorless, clockless, cleared, countIn, countsIn, rankIn, ranksIn, timeoutIn, timeoutsIn, alive, slotIn, timerIn, standing, fit, justSet, timeoutsAt, fitStart, fitCrash, fitExpire, inTick, fitMessage, heardBefore, fitHear, unended, ended, fitSlot};
 ghost use Rattle.station.specs.Limits.{lastTick, longest};
 use station::LAST_TICK;
 use station::MOST_RANK;
@@ -28,7 +28,7 @@ pub fn wide(x: u32) -> u64
 }
 
 // The tick before.
-fn previous(tick: u32) -> u32
+pub fn previous(tick: u32) -> u32
     ensures { λ r. ⌜ r ≡ tick - 1 ⌝ }
 {
     if tick == 0 { 0 } else { tick - 1 }
@@ -49,14 +49,14 @@ pub fn least(a: u32, b: u32) -> u32
 }
 
 // Whether a tick is one of a run.
-fn in_run(tick: u32) -> bool
+pub fn in_run(tick: u32) -> bool
     ensures { λ r. ⌜ r ≡ within 1 tick lastTick ⌝ }
 {
     (1 <= tick) & (tick <= LAST_TICK)
 }
 
 // Whether the number of the station, the number of stations and the period are in range.
-fn ranges(me: u8, n: u8, period: u32) -> bool
+pub fn ranges(me: u8, n: u8, period: u32) -> bool
     ensures { λ r. ⌜ r ≡ ranges me n period ⌝ }
 {
     ((2 <= n) & (n <= 8)) & ((16 <= period) & (period <= 255)) & ((1 <= me) & (me <= n))
@@ -134,13 +134,27 @@ fn timeouts_in(me: u8, n: u8, period: u32, high: u64, t: [u32; 8]) -> bool
     true
 }
 
+// Whether a station has no counts and no timeouts.
+pub fn vectorless(s: Station) -> bool
+    ensures { λ r. ⌜ r ≡ vectorless s ⌝ }
+{
+    let v = s.recovered;
+    let t = s.timeouts;
+    counts_in(0, v) & timeouts_in(0, 0, 0, 0, t)
+}
+
+// Whether the fields of a head with a running clock are zero.
+fn clockless(s: Station) -> bool
+    ensures { λ r. ⌜ r ≡ clockless s ⌝ }
+{
+    (s.stamp == 0) & (s.lowest == 0) & (s.timeout == 0)
+}
+
 // Whether all that a crash loses is zero.
 pub fn cleared(s: Station) -> bool
     ensures { λ r. ⌜ r ≡ cleared s ⌝ }
 {
-    let v = s.recovered;
-    let t = s.timeouts;
-    let empty = counts_in(0, v) & timeouts_in(0, 0, 0, 0, t);
+    let empty = vectorless(s) & clockless(s);
     (s.leader == 0) & (s.timer == 0) & (s.slot == 0) & !s.recovering & empty
 }
 
@@ -151,7 +165,8 @@ fn alive(me: u8, n: u8, s: Station) -> bool
     let v = s.recovered;
     let counts = counts_in(n, v);
     let own = count_of(v, me);
-    s.up & (1 <= s.incarnation) & ((1 <= s.leader) & (s.leader <= n)) & counts & (1 <= own)
+    let leader = (1 <= s.leader) & (s.leader <= n);
+    s.up & (1 <= s.incarnation) & leader & counts & (1 <= own) & clockless(s)
 }
 
 // Whether the next send chance is in range.
@@ -266,7 +281,7 @@ fn fit_message(me: u8, n: u8, q: u8, v: [u16; 8]) -> bool
 }
 
 // Whether the leader can have been heard in this tick before a message from q.
-fn heard_before(period: u32, tick: u32, q: u8, s: Station) -> bool
+pub fn heard_before(period: u32, tick: u32, q: u8, s: Station) -> bool
     ensures { λ r. ⌜ r ≡ heardBefore period tick q s ⌝ }
 {
     let apart = least(previous(tick), FLIGHT);

@@ -1,2 +1,2 @@
--- The open operations of one station.
+-- The open operations of a head with flash.
 pub mod Operations

@@ -1,4 +1,4 @@
--- The station operations ("Station operation" of document 01): the refusals in their order, then the rule.
+-- The station operations of a head with flash ("Station operation" of document 01): the refusals in their order, then the rule.
 use mathlib.Core.List.{List, [], _∷_}
 use mathlib.Core.Bool.{Bool, false, cond, not, _&&_}
 use Prim.Native.Nat.{ℕ}

@@ -1,5 +1,6 @@
-// The open operations of one station: each tests what it is handed, and refuses or does what the rule says. Where candidates are compared,
-// the ranks of all stations are handed over too, station 1 first; a station holds none.
+// The open operations of a head with flash: each tests what it is handed, and refuses or does what the rule says. Where candidates are compared,
+// the ranks of all stations are handed over too, station 1 first; a station holds none. Answer and Outcome serve both kinds of head; the operations of one with a
+// running clock are in crates/clock.
 ghost use mathlib.Core.Path.{_≡_};
 ghost use mathlib.Core.Bool.{false};
 ghost use Rattle.operations.specs.Operations.{refusalOf, said, starting, crashing, hearing, expiring, slotting};
@@ -15,7 +16,7 @@ pub enum Answer {
     Unfit,
 }
 
-// The answer, whether LEADER is to be sent with the station's counts, and the station.
+// The answer, whether LEADER is to be sent, and the station.
 pub struct Outcome {
     pub answer: Answer,
     pub sends: bool,
@@ -23,7 +24,7 @@ pub struct Outcome {
 }
 
 // The outcome of an operation that is accepted.
-fn accepted(sends: bool, station: Station) -> Outcome
+pub fn accepted(sends: bool, station: Station) -> Outcome
     ensures { λ r. ⌜ said r ≡ record { refusal = 0; sending = sends; station = station } ⌝ }
 {
     Outcome {
@@ -34,7 +35,7 @@ fn accepted(sends: bool, station: Station) -> Outcome
 }
 
 // The outcome of an operation that is turned down: the station comes back as it was.
-fn refused(answer: Answer, station: Station) -> Outcome
+pub fn refused(answer: Answer, station: Station) -> Outcome
     ensures { λ r. ⌜ said r ≡ record { refusal = refusalOf answer; sending = false; station = station } ⌝ }
 {
     Outcome {

@@ -12,6 +12,6 @@ mostStarts = 4095
 abbrev pub mostRank : ℕ
 mostRank = 7
 
--- a timeout begins at period + count, at most 255 + 4095, and rises by at most one in a tick
+-- a timeout of a head with flash begins at period + count, at most 255 + 4095, and rises by at most one in a tick; that of a clock head is lower
 abbrev pub longest : ℕ → ℕ
 longest tick = 4350 + tick

@@ -1,4 +1,4 @@
-// The rules of one station of the stable-storage leader election, and the order of candidates.
+// One station, of either kind of head; the rules of one with flash, by the stable-storage leader election, and the order of candidates.
 pub mod rules;
 
 // The last tick.
@@ -21,8 +21,12 @@ pub struct Station {
     pub slot: u32,
     // whether the start-up wait is still on
     pub recovering: bool,
-    // the known start counts, station 1 first
+    // of a head with flash, zero in one with a running clock: the known start counts, station 1 first
     pub recovered: [u16; 8],
-    // the timeouts for the other stations, station 1 first
+    // and the timeouts for the other stations
     pub timeouts: [u32; 8],
+    // of a head with a running clock, zero in one with flash: its stamp, the lowest stamp that it knows, and its one timeout
+    pub stamp: u32,
+    pub lowest: u32,
+    pub timeout: u32,
 }

@@ -9,4 +9,4 @@ unfolding alive
 returns c = cc
 
 pub alive-spec : {M : Type 1} → statement M
-alive-spec = tie.close (tie.spec (λ c κs. search needs) (λ c κs. search needs) returns)
+alive-spec = tie.close (tie.spec (λ c κs. search needs) (λ c κs. search needs) (λ c κs. search needs) returns)
