@@ -1,4 +1,4 @@
-// The LEADER frame: 10 hex, the sender, n and n counts; written into a lent buffer, read from lent bytes.
+// The LEADER frame: 10 hex, the sender, n and n counts; written into a lent buffer, read from lent bytes. The clock frame is in src/stamp.rt.
 ghost use mathlib.Core.Path.{_≡_};
 ghost use Prim.Native.Nat.{_+_, _*_, _<_, _≤_};
 ghost use lib.ListN.{length, replicate};
@@ -9,6 +9,7 @@ ghost use Rattle.frame.specs.Reading.{said as saidRead};
 ghost use Rattle.frame.specs.Writing.{writing, said};
 
 pub mod numbers;
+pub mod stamp;
 
 // What writing answers: the length written, or why nothing was.
 pub enum Written {

@@ -9,12 +9,13 @@ use native.Mathlib.Decide.{decLt}
 use native.Mathlib.Numerals.{add-one}
 use native.Mathlib.Omega.{arith}
 use lib.ListN.{length, take, set, length-append, length-set}
-use lib.Seq.{take-suc, take-all, take-append-le, take-set-le, getD-set-same, length-take-le}
+use lib.Seq.{take-suc, take-all, take-append-le, take-set-le, getD-set-same, length-take-le, getD-take}
 use lib.Dec.{eqb}
 use borrow.Author.Tests.{lt-ltb, le-ltb, eqb-true, ne-eqb}
 use Rattle.lists.proofs.Bools.{either, false-unless}
 use Rattle.frame.specs.Frame.{frameSize, stationsIn}
 use Rattle.frame.specs.Reading.{reading}
+use Rattle.frame.specs.Stamp.{stampSize, stampReading}
 use Rattle.frame.proofs.Lengths.{lengths}
 use Rattle.frame.proofs.Ranges.{stations-range}
 use Rattle.frames.specs.Explained.{ownCount, frameText, found, lineText}
@@ -36,8 +37,13 @@ long n true bytes cut e h g =
 no-frame : (bytes : List ℕ) → kept ≤ length bytes → ownCount bytes ≡ 2
 no-frame bytes h = own-two bytes (false-unless _ (λ e. let s = lengths (length bytes) .0 e in omega (arith, s .is, s .high)))
 
+-- nor is it a clock frame
+long-stamp : (bytes cut : List ℕ) → kept ≤ length bytes → kept ≤ length cut → stampReading 8 cut ≡ stampReading 8 bytes
+unfolding stationsIn stampReading
+long-stamp bytes cut h g = rw (ne-eqb (length bytes) stampSize (λ i. omega arith), ne-eqb (length cut) stampSize (λ i. omega arith))
+
 pub first-kept : (bytes : List ℕ) → frameText (take kept bytes) ≡ frameText bytes
-unfolding stationsIn
+unfolding stationsIn frameText
 first-kept bytes = go (decLt (length bytes) kept)
   where
     go : Dec (length bytes < kept) → frameText (take kept bytes) ≡ frameText bytes
@@ -45,7 +51,13 @@ first-kept bytes = go (decLt (length bytes) kept)
     go (no l) =
         let all : kept ≤ length bytes = omega arith in
         let cut : kept ≤ length (take kept bytes) = omega (arith, length-take-le kept bytes all) in
-        rw (no-frame bytes all, no-frame (take kept bytes) cut, long 2 true bytes (take kept bytes) refl all cut)
+        rw (
+          getD-take kept bytes 0 0 (omega arith),
+          long-stamp bytes (take kept bytes) all cut,
+          no-frame bytes all,
+          no-frame (take kept bytes) cut,
+          long 2 true bytes (take kept bytes) refl all cut,
+        )
 
 -- what a line is explained by: whether it is hex, and then its bytes
 same-found : (k : ℕ) (hex : Bool) (a b : List ℕ) → (hex ≡ true → frameText a ≡ frameText b) → lineText k (record { hex = hex; bytes = a }) ≡ lineText k (record { hex = hex; bytes = b })

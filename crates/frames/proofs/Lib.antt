@@ -1,5 +1,6 @@
 -- What the program frames prints: the laws.
 pub mod Characters
+pub mod Chosen
 pub mod Computed
 pub mod Ending
 pub mod Going

@@ -1,5 +1,6 @@
--- The number of stations that a frame has in itself, and what is told of it.
+-- The number of stations that a LEADER frame has in itself, and what is read for it.
 use mathlib.Core.Path.{_≡_, refl, sym, ap, subst, _∙_}
+use mathlib.Core.Logic.{_↔_}
 use mathlib.Core.List.{List}
 use mathlib.Core.Bool.{Bool, true, false, true≢false}
 use Prim.Native.Nat.{ℕ, _+_, _*_, _≤_}
@@ -10,7 +11,7 @@ use Rattle.lists.specs.Entries.{over}
 use Rattle.lists.proofs.Entries.{over-front}
 use Rattle.lists.proofs.First.{first-is}
 use Rattle.text.proofs.Same.{vector-same}
-use Rattle.frame.specs.Claims.{oldFrame}
+use Rattle.frame.specs.Claims.{Octets, WellFormed, oldFrame}
 use Rattle.frame.specs.Frame.{frame, frameSize, isLength}
 use Rattle.frame.specs.Reading.{writtenCount, readTests, reading}
 use Rattle.frame.proofs.Accepted.{readable}
@@ -18,7 +19,7 @@ use Rattle.frame.proofs.Body.{length-frame}
 use Rattle.frame.proofs.Lengths.{lengths, no-length, old-length}
 use Rattle.frame.proofs.Ranges.{stations-range}
 use Rattle.frame.proofs.WellFormed.{reading-formed, reads-well-formed}
-use Rattle.frames.specs.Claims.{ToldFrames, FrameTold, OwnCount, NeverAnother, OldTold}
+use Rattle.frames.specs.Claims.{Some, OwnCount, NeverAnother, OldTold}
 use Rattle.frames.specs.Explained.{ownCount, counted, received, answered}
 
 -- the third byte, where the length is that of a frame
@@ -36,15 +37,17 @@ own-count n bytes w =
     let size : length bytes ≡ 3 + 2 * n = ap length (w .is-frame) ∙ length-frame n (w .sender) (w .counts) ∙ ap frameSize (w .size) in
     sym (own-third bytes (lengths (length bytes) .1 (record { n = n; low = w .stations .0; high = w .stations .1; is = size }))) ∙ ap writtenCount (w .is-frame)
 
-pub told-frames : ToldFrames
-told-frames bytes o = (
+-- so bytes are read for it exactly when they are well formed for some number
+pub own-formed : (bytes : List ℕ) → Octets bytes → (reading (ownCount bytes) bytes .refusal ≡ 0) ↔ Some bytes
+own-formed bytes o = (
   (λ e. record { n = ownCount bytes; formed = reads-well-formed (ownCount bytes) bytes o .0 e }),
   (λ s. subst (λ n. reading n bytes .refusal ≡ 0) (sym (own-count (s .n) bytes (s .formed))) (reads-well-formed (s .n) bytes o .1 (s .formed))),
 )
 
-pub frame-told : FrameTold
+-- and told with the sender and the counts
+pub answered-formed : (n : ℕ) (bytes : List ℕ) (w : WellFormed n bytes) → answered (ownCount bytes) (reading (ownCount bytes) bytes) ≡ received n (w .sender) (w .counts)
 unfolding answered received counted
-frame-told n bytes w =
+answered-formed n bytes w =
     rw (own-count n bytes w, reading-formed n bytes w, vector-same n (over (w .counts) (replicate 8 0)) (w .counts) (λ k l. over-front (w .counts) (replicate 8 0) k 0 (omega (arith, w .size))))
 
 -- what has the length of no frame is told with 17

@@ -11,7 +11,8 @@ use Rattle.text.specs.Quoted.{text}
 use Rattle.text.proofs.Digits.{length-decimal}
 use Rattle.text.proofs.Room.{either, vector-room}
 use Rattle.frame.specs.Reading.{Reading, reading}
-use Rattle.frames.specs.Explained.{ownCount, reason, counted, received, answered, frameText, found, lineText}
+use Rattle.frame.specs.Stamp.{StampReading, stampReading}
+use Rattle.frames.specs.Explained.{ownCount, reason, counted, received, answered, stampReason, stamped, stampAnswered, isStamp, frameText, found, lineText}
 use Rattle.frames.specs.Line.{told, spells, longestLine}
 use Rattle.frames.specs.declared.line.Line.{Line}
 use Rattle.frames.proofs.Own.{at-most-eight}
@@ -34,8 +35,18 @@ answered-room n r h =
     (λ e. received-room n (r .sender) (r .counts) (h (eqb-true _ _ e)))
     (λ e. simp length-append (omega (arith, length-decimal (r .refusal), reason-room (r .refusal))))
 
+stamped-room : (r : StampReading) → length (stampAnswered r) ≤ 226
+unfolding text stampReason stamped stampAnswered
+stamped-room r =
+    cond-elim (λ (l : List ℕ). length l ≤ 226) (eqb (r .refusal) 0)
+    (λ e. simp length-append (omega (arith, length-decimal (r .sender), length-decimal (r .stamp))))
+    (λ e. simp length-append (omega (arith, length-decimal (r .refusal), either (eqb (r .refusal) 17) (text "the length is not 6") (text "the sender is not 1 to 8") 24 (omega arith) (omega arith))))
+
 frame-room : (bytes : List ℕ) → length (frameText bytes) ≤ 226
-frame-room bytes = answered-room (ownCount bytes) (reading (ownCount bytes) bytes) (at-most-eight (ownCount bytes) bytes)
+unfolding frameText
+frame-room bytes =
+    either (isStamp bytes) _ _ 226 (stamped-room (stampReading 8 bytes))
+    (answered-room (ownCount bytes) (reading (ownCount bytes) bytes) (at-most-eight (ownCount bytes) bytes))
 
 pub line-room : (s : Line) → length (told s) ≤ longestLine
 unfolding text found lineText

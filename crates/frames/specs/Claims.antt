@@ -1,36 +1,57 @@
 -- What is claimed of the program frames; the theorems are in proofs/.
 use mathlib.Core.Path.{_≡_}
-use mathlib.Core.Logic.{_↔_}
+use mathlib.Core.Logic.{_↔_, _⊎_}
 use mathlib.Core.List.{List, [], _∷_, _++_}
 use mathlib.Core.Bool.{true, cond}
 use Prim.Native.Nat.{ℕ, _+_, _/_, _%_}
+use lib.ListN.{take}
 use lib.Dec.{ltb}
+use Rattle.text.specs.Quoted.{text}
 use Rattle.frame.specs.Claims.{Octets, WellFormed, oldFrame}
 use Rattle.frame.specs.Reading.{reading}
-use Rattle.frames.specs.Explained.{ownCount, received, frameText, output}
+use Rattle.frame.specs.Stamp.{stampReading}
+use Rattle.frame.specs.StampClaims.{StampFormed}
+use Rattle.frames.specs.Explained.{ownCount, received, stamped, isStamp, frameText, output}
 use Rattle.frames.specs.Hex.{spelled}
 use Rattle.frames.specs.Line.{begin, after, printed}
 use Rattle.frames.specs.declared.line.Line.{Line}
 
--- bytes are told as a frame exactly when they are well formed for some number of stations
+-- well formed for some number of stations: as a LEADER frame, and as a clock frame
 pub record Some (bytes : List ℕ) : Type 0 where
   pub n : ℕ
   pub formed : WellFormed n bytes
 
-abbrev pub ToldFrames : Type 0
-ToldFrames = (bytes : List ℕ) → Octets bytes → (reading (ownCount bytes) bytes .refusal ≡ 0) ↔ Some bytes
+pub record SomeStamp (bytes : List ℕ) : Type 0 where
+  pub n : ℕ
+  pub formed : StampFormed n bytes
 
--- which is the one that is told, with the sender and the counts
+-- told as a frame: with the sender first
+abbrev pub Told : List ℕ → Type 0
+Told bytes = take 7 (frameText bytes) ≡ text "sender "
+
+-- bytes are told as a frame exactly when they are well formed for some number of stations, as the one or as the other
+abbrev pub ToldFrames : Type 0
+ToldFrames = (bytes : List ℕ) → Octets bytes → Told bytes ↔ (Some bytes ⊎ SomeStamp bytes)
+
+-- a LEADER frame is told with that number, the sender and the counts
 abbrev pub FrameTold : Type 0
 FrameTold = (n : ℕ) (bytes : List ℕ) (w : WellFormed n bytes) → frameText bytes ≡ received n (w .sender) (w .counts)
 
--- it is found in the frame
+-- a clock frame is told with the sender and the stamp
+abbrev pub StampTold : Type 0
+StampTold = (n : ℕ) (bytes : List ℕ) (w : StampFormed n bytes) → frameText bytes ≡ stamped (w .sender) (w .stamp)
+
+-- the number is found in the LEADER frame
 abbrev pub OwnCount : Type 0
 OwnCount = (n : ℕ) (bytes : List ℕ) → WellFormed n bytes → ownCount bytes ≡ n
 
 -- 24 is not told, since n is the frame's own
 abbrev pub NeverAnother : Type 0
 NeverAnother = (bytes : List ℕ) → reading (ownCount bytes) bytes .refusal ≡ 24 → ⊥
+
+-- nor are 5 and 18 of a clock frame, which begins with 11 hex and is read for 8
+abbrev pub NeverStamp : Type 0
+NeverStamp = (bytes : List ℕ) → isStamp bytes ≡ true → (stampReading 8 bytes .refusal ≡ 5 → ⊥) × (stampReading 8 bytes .refusal ≡ 18 → ⊥)
 
 -- old frames are told with 17
 abbrev pub OldTold : Type 0

@@ -4,13 +4,17 @@ ghost use Prim.Native.Nat.{_+_, _*_, _^_, _≤_, _<_};
 ghost use lib.ListN.{length};
 ghost use Rattle.text.specs.Wrote.{Wrote};
 ghost use Rattle.frame.specs.Reading.{said};
-ghost use Rattle.frames.specs.Explained.{ownCount, counted, received, answered, frameText, found};
+ghost use Rattle.frame.specs.Stamp.{said as saidStamp};
+ghost use Rattle.frames.specs.Explained.{ownCount, counted, received, refused, answered, stampReason, stamped, stampAnswered, isStamp, frameText, found};
 ghost use Rattle.frames.specs.Line.{Held, spells, told, longestLine, stepped, toldAt, after, printed};
 use crate::line::Line;
 use crate::line::begin;
 use crate::line::read;
 use frame::Receipt;
 use frame::Received;
+use frame::numbers::read_refusal;
+use frame::numbers::sender_of;
+use frame::stamp::Stamped;
 use text::rules::put;
 use text::rules::put_counts;
 use text::rules::put_named;
@@ -45,7 +49,10 @@ fn put_answer(n: u8, r: Received, buffer: &mut [u8]) -> usize
         Receipt::From(sender) => put_received(n, sender, counts, buffer),
         Receipt::Stations => put(b"refused 5, n is not 2 to 8", buffer),
         Receipt::Length => put(b"refused 17, the length is not 3 + 2n", buffer),
-        Receipt::Mark => put(b"refused 18, the first byte is not 10 hex", buffer),
+        Receipt::Mark => put(
+            b"refused 18, the first byte is neither 10 nor 11 hex",
+            buffer,
+        ),
         Receipt::Sender => put(b"refused 19, the sender is not 1 to n", buffer),
         Receipt::Entry => put(
             b"refused 20, a count is above 4095, or the sender's own is 0",
@@ -65,11 +72,67 @@ fn own_count(bytes: &[u8]) -> u8
     2
 }
 
+// Writes why a clock frame is refused.
+fn put_stamp_reason(refusal: u64, buffer: &mut [u8]) -> usize
+    requires { ⌜ length (stampReason refusal) ≤ length (now buffer) ⌝ }
+    ensures { λ r. ⌜ Wrote (stampReason refusal) (now (buffer .entry)) r (now (buffer .exit)) ⌝ }
+{
+    if refusal == 17 {
+        return put(b"the length is not 6", buffer);
+    }
+    put(b"the sender is not 1 to 8", buffer)
+}
+
+// Writes the refusal of a clock frame, and why.
+fn put_stamp_refused(refusal: u64, buffer: &mut [u8]) -> usize
+    requires { ⌜ length (refused refusal (stampReason refusal)) ≤ length (now buffer) ⌝ }
+    ensures { λ r. ⌜ Wrote (refused refusal (stampReason refusal)) (now (buffer .entry)) r (now (buffer .exit)) ⌝ }
+{
+    let a = put_named(b"refused ", refusal, buffer);
+    let b = a + put(b", ", &mut buffer[a..]);
+    b + put_stamp_reason(refusal, &mut buffer[b..])
+}
+
+// Writes sender and stamp by name.
+fn put_stamped(sender: u8, stamp: u32, buffer: &mut [u8]) -> usize
+    requires { ⌜ length (stamped sender stamp) ≤ length (now buffer) ⌝ }
+    ensures { λ r. ⌜ Wrote (stamped sender stamp) (now (buffer .entry)) r (now (buffer .exit)) ⌝ }
+{
+    let at = put_named(b"sender ", sender as u64, buffer);
+    at + put_named(b" stamp ", stamp as u64, &mut buffer[at..])
+}
+
+// Writes what reading a clock frame answered.
+fn put_stamp_answer(r: Stamped, buffer: &mut [u8]) -> usize
+    requires { ⌜ length (stampAnswered (saidStamp r)) ≤ length (now buffer) ⌝ }
+    ensures { λ x. ⌜ Wrote (stampAnswered (saidStamp r)) (now (buffer .entry)) x (now (buffer .exit)) ⌝ }
+{
+    let answer = r.answer;
+    let refusal = read_refusal(answer);
+    if refusal == 0 {
+        return put_stamped(sender_of(answer), r.stamp, buffer);
+    }
+    put_stamp_refused(refusal, buffer)
+}
+
+// Whether the bytes begin as a clock frame does.
+fn is_stamp(bytes: &[u8]) -> bool
+    ensures { λ r. ⌜ r ≡ isStamp (now (bytes .entry)) ⌝ }
+{
+    if bytes.len() == 0 {
+        return false;
+    }
+    bytes[0] == frame::stamp::MARK
+}
+
 // Writes what a frame says, or why it is none.
 fn put_frame(bytes: &[u8], buffer: &mut [u8]) -> usize
     requires { ⌜ length (frameText (now bytes)) ≤ length (now buffer) ⌝ }
     ensures { λ r. ⌜ Wrote (frameText (now (bytes .entry))) (now (buffer .entry)) r (now (buffer .exit)) ⌝ }
 {
+    if is_stamp(bytes) {
+        return put_stamp_answer(frame::stamp::read(8, bytes), buffer);
+    }
     let n = own_count(bytes);
     put_answer(n, frame::read(n, bytes), buffer)
 }
