@@ -19,21 +19,21 @@ use Rattle.election.specs.declared.System.{System}
 use Rattle.election.proofs.Places.{In}
 
 abbrev pub Accepts : Command → System → Type 0
-Accepts (SetUp n period) s = (s .ready ≡ false) × (2 ≤ n) × (n ≤ 8) × (16 ≤ period) × (period ≤ 255)
+Accepts (SetUp clock n period) s = (s .ready ≡ false) × (2 ≤ n) × (n ≤ 8) × (16 ≤ period) × (period ≤ 255)
 Accepts (Start p) s = (s .ready ≡ true) × In (s .n) p × (station s p .up ≡ false) × (station s p .incarnation < 4095)
 Accepts (Crash p) s = (s .ready ≡ true) × In (s .n) p × (station s p .up ≡ true)
 Accepts (Link p q d) s = (s .ready ≡ true) × In (s .n) p × In (s .n) q × (p ≢ q) × (d ≤ longestDelay)
 Accepts (Run t) s = (s .ready ≡ true) × (0 < t) × (s .tick + t ≤ 1000000)
 Accepts (Lose p q) s = (s .ready ≡ true) × In (s .n) p × In (s .n) q × (p ≢ q)
 Accepts Report s = s .ready ≡ true
-Accepts (Rank p r) s = (s .ready ≡ true) × In (s .n) p × (r ≤ mostRank) × (noneStarted (s .stations) ≡ true)
+Accepts (Rank p r) s = (s .ready ≡ true) × (s .clock ≡ false) × In (s .n) p × (r ≤ mostRank) × (noneStarted (s .stations) ≡ true)
 
 in-of : (n p : ℕ) → within 1 p n ≡ true → In n p
 in-of n p e = let (low, high) = within-of 1 p n e in record { low = low; high = high }
 
 -- its tests passed
 pub accepts : (c : Command) (s : System) → firstFailed (tests s c) ≡ 0 → Accepts c s
-accepts (SetUp n period) s t =
+accepts (SetUp clock n period) s t =
     let (r, t₁) = passed (not (s .ready)) _ 3 t in
     let (a, t₂) = passed (within 2 n 8) _ 4 t₁ in
     let (b, t₃) = passed (within 16 period 255) _ 5 t₂ in
@@ -72,10 +72,11 @@ accepts (Lose p q) s t =
 accepts Report s t = let (r, t₁) = passed (s .ready) _ 2 t in r
 accepts (Rank p x) s t =
     let (r, t₁) = passed (s .ready) _ 2 t in
-    let (i, t₂) = passed (within 1 p (s .n)) _ 6 t₁ in
-    let (h, t₃) = passed (leb x mostRank) _ 21 t₂ in
-    let (none, t₄) = passed (noneStarted (s .stations)) _ 22 t₃ in
-    (r, in-of (s .n) p i, leb-true x mostRank h, none)
+    let (k, t₂) = passed (not (s .clock)) _ 24 t₁ in
+    let (i, t₃) = passed (within 1 p (s .n)) _ 6 t₂ in
+    let (h, t₄) = passed (leb x mostRank) _ 21 t₃ in
+    let (none, t₅) = passed (noneStarted (s .stations)) _ 22 t₄ in
+    (r, not-true (s .clock) k, in-of (s .n) p i, leb-true x mostRank h, none)
 
 -- so did those before them
 pub ruling-tests : (s : System) (bytes : List ℕ) → ruling s bytes ≡ 0 → firstFailed (tests s (decode bytes)) ≡ 0

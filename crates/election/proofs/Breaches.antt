@@ -5,4 +5,4 @@ use Rattle.election.proofs.Opened.{rules}
 
 pub clauses : Clauses
 unfolding rules soundEach
-clauses = (refl, refl)
+clauses = (refl, refl, refl, refl)

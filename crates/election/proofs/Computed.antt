@@ -1,8 +1,9 @@
--- The tables of specs/Rehearsals.antt, specs/Ranked.antt and specs/Errors.antt, computed by the rules.
+-- The tables of specs/Rehearsals.antt, specs/Ranked.antt, specs/Clocked.antt and specs/Errors.antt, computed by the rules.
 use mathlib.Core.Path.{refl}
 use Rattle.lists.specs.Join.{joinTo}
-use Rattle.election.specs.Errors.{errors, prints, DarkTwice, Decimals, FreshWhole, SetUpWhole, EightWhole}
-use Rattle.election.specs.Listing.{status, leaderOf, vectorOf, stationLine, stationLines, dark, allTrust, aLeader, upAmong, verdict, verdictLine, listingOf, reported, endLine, reports, output}
+use Rattle.election.specs.Clocked.{elections, refusals}
+use Rattle.election.specs.Errors.{errors, prints, DarkTwice, Decimals, FreshWhole, SetUpWhole, ClocksWhole, EightWhole}
+use Rattle.election.specs.Listing.{status, leaderOf, vectorOf, stampOf, knownOf, keptOf, stationLine, stationLines, dark, allTrust, aLeader, upAmong, verdict, verdictLine, listingOf, reported, endLine, reports, output}
 use Rattle.text.specs.Numbers.{digits, countOf, vector}
 use Rattle.election.specs.Ranked.{preferences, changes}
 use Rattle.election.specs.Rehearsals.{rehearsals}
@@ -12,7 +13,7 @@ use Rattle.election.proofs.Ruled.{ruled, HoldRuled}
 
 -- what is opened to compute what is printed
 unfoldable printing : Unit {0}
-unfolding rules ruled text digits joinTo countOf vector status leaderOf vectorOf stationLine stationLines dark allTrust aLeader upAmong verdict verdictLine listingOf reported endLine
+unfolding rules ruled text digits joinTo countOf vector status leaderOf vectorOf stampOf knownOf keptOf stationLine stationLines dark allTrust aLeader upAmong verdict verdictLine listingOf reported endLine
 printing = tt
 
 pub errors-ruled : HoldRuled errors
@@ -24,9 +25,9 @@ unfolding printing
 prints-ruled = ((refl, refl), ((refl, refl), ((refl, refl), ((refl, refl), ((refl, refl), tt)))))
 
 -- these from the definitions themselves
-pub spelled-out : DarkTwice × Decimals × FreshWhole × SetUpWhole × EightWhole
+pub spelled-out : DarkTwice × Decimals × FreshWhole × SetUpWhole × ClocksWhole × EightWhole
 unfolding printing reports output
-spelled-out = (refl, refl, refl, refl, refl)
+spelled-out = (refl, refl, refl, refl, refl, refl)
 
 pub rehearsals-ruled : HoldRuled rehearsals
 unfolding printing
@@ -39,3 +40,11 @@ preferences-ruled = ((refl, refl), ((refl, refl), ((refl, refl), ((refl, refl), 
 pub changes-ruled : HoldRuled changes
 unfolding printing
 changes-ruled = ((refl, refl), ((refl, refl), ((refl, refl), ((refl, refl), ((refl, refl), ((refl, refl), ((refl, refl), ((refl, refl), ((refl, refl), ((refl, refl), ((refl, refl), ((refl, refl), ((refl, refl), ((refl, refl), tt))))))))))))))
+
+pub elections-ruled : HoldRuled elections
+unfolding printing
+elections-ruled = ((refl, refl), ((refl, refl), ((refl, refl), ((refl, refl), ((refl, refl), ((refl, refl), ((refl, refl), ((refl, refl), ((refl, refl), ((refl, refl), tt))))))))))
+
+pub refusals-ruled : HoldRuled refusals
+unfolding printing
+refusals-ruled = ((refl, refl), ((refl, refl), ((refl, refl), ((refl, refl), ((refl, refl), ((refl, refl), ((refl, refl), ((refl, refl), ((refl, refl), ((refl, refl), tt))))))))))

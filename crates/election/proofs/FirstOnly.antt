@@ -19,21 +19,22 @@ module _ (bytes : List ℕ) (n : ℕ) (h : operands (decode bytes) < n) where
   decode-take =
       rw (getD-take n bytes 0 0 (omega arith))
       (let b : ℕ = getD bytes 0 0 in
-      go (eqb b 1) (eqb b 2) (eqb b 3) (eqb b 4) (eqb b 5) (eqb b 6) (eqb b 8) (λ l. getD-take n bytes 1 0 (omega (arith, l))) (λ l. getD-take n bytes 2 0 (omega (arith, l))) (λ l. getD-take n bytes 3 0 (omega (arith, l))))
+      go (eqb b 1) (eqb b 2) (eqb b 3) (eqb b 4) (eqb b 5) (eqb b 6) (eqb b 8) (eqb b 9) (λ l. getD-take n bytes 1 0 (omega (arith, l))) (λ l. getD-take n bytes 2 0 (omega (arith, l))) (λ l. getD-take n bytes 3 0 (omega (arith, l))))
     where
-      tree : (a b c d e f g : Bool) → ℕ → ℕ → ℕ → Command
-      tree a b c d e f g x y z = cond a (SetUp x y) (cond b (Start x) (cond c (Crash x) (cond d (Link x y z) (cond e (Run (x + 256 * y)) (cond f (Lose x y) (cond g (Rank x y) Report))))))
+      tree : (a b c d e f g k : Bool) → ℕ → ℕ → ℕ → Command
+      tree a b c d e f g k x y z = cond a (SetUp false x y) (cond b (Start x) (cond c (Crash x) (cond d (Link x y z) (cond e (Run (x + 256 * y)) (cond f (Lose x y) (cond g (Rank x y) (cond k (SetUp true x y) Report)))))))
 
-      go : (a b c d e f g : Bool) {x y z x′ y′ z′ : ℕ} → (0 < operands (tree a b c d e f g x y z) → x′ ≡ x) → (1 < operands (tree a b c d e f g x y z) → y′ ≡ y) → (2 < operands (tree a b c d e f g x y z) → z′ ≡ z)
-          → tree a b c d e f g x′ y′ z′ ≡ tree a b c d e f g x y z
-      go true b c d e f g p q r = rw (p (omega arith), q (omega arith))
-      go false true c d e f g p q r = rw (p (omega arith))
-      go false false true d e f g p q r = rw (p (omega arith))
-      go false false false true e f g p q r = rw (p (omega arith), q (omega arith), r (omega arith))
-      go false false false false true f g p q r = rw (p (omega arith), q (omega arith))
-      go false false false false false true g p q r = rw (p (omega arith), q (omega arith))
-      go false false false false false false true p q r = rw (p (omega arith), q (omega arith))
-      go false false false false false false false p q r = refl
+      go : (a b c d e f g k : Bool) {x y z x′ y′ z′ : ℕ} → (0 < operands (tree a b c d e f g k x y z) → x′ ≡ x) → (1 < operands (tree a b c d e f g k x y z) → y′ ≡ y) → (2 < operands (tree a b c d e f g k x y z) → z′ ≡ z)
+          → tree a b c d e f g k x′ y′ z′ ≡ tree a b c d e f g k x y z
+      go true b c d e f g k p q r = rw (p (omega arith), q (omega arith))
+      go false true c d e f g k p q r = rw (p (omega arith))
+      go false false true d e f g k p q r = rw (p (omega arith))
+      go false false false true e f g k p q r = rw (p (omega arith), q (omega arith), r (omega arith))
+      go false false false false true f g k p q r = rw (p (omega arith), q (omega arith))
+      go false false false false false true g k p q r = rw (p (omega arith), q (omega arith))
+      go false false false false false false true k p q r = rw (p (omega arith), q (omega arith))
+      go false false false false false false false true p q r = rw (p (omega arith), q (omega arith))
+      go false false false false false false false false p q r = refl
 
   ruling-take : (s : System) → n ≤ length bytes → ruling s (take n bytes) ≡ ruling s bytes
   ruling-take s l =

@@ -8,4 +8,4 @@ use Rattle.election.specs.Search.{endsAt}
 
 pub searches-found : SearchesFound
 unfolding endsAt verdict dark allTrust aLeader upAmong allTo each
-searches-found = (refl, (refl, (refl, (refl, (refl, (refl, (refl, (refl, (refl, (refl, (refl, (refl, (refl, (refl, (refl, (refl, tt))))))))))))))))
+searches-found = (refl, (refl, (refl, (refl, (refl, (refl, (refl, (refl, (refl, (refl, (refl, (refl, (refl, (refl, (refl, (refl, (refl, (refl, (refl, (refl, (refl, (refl, (refl, tt)))))))))))))))))))))))

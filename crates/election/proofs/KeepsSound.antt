@@ -23,14 +23,14 @@ use Rattle.election.proofs.TickSound.{ticks-sound, ticks-ready}
 -- a command that is accepted
 keeps : (c : Command) (s : System) → sound s ≡ true → Accepts c s → sound (perform c s) ≡ true
 unfolding perform
-keeps (SetUp n period) s e (r, n-low, n-high, p-low, p-high) = of-sound (initial n period) (initial-sound n period n-low n-high p-low p-high) (initial-ready n period)
+keeps (SetUp clock n period) s e (r, n-low, n-high, p-low, p-high) = of-sound (initial clock n period) (initial-sound clock n period n-low n-high p-low p-high) (initial-ready clock n period)
 keeps (Start p) s e (r, i, d, few) = of-sound _ (start-sound s (sound-of s e r) p i few) r
 keeps (Crash p) s e (r, i, u) = of-sound _ (crash-sound s (sound-of s e r) p i u) r
 keeps (Link p q d) s e (r, i, j, ne, short) = of-sound _ (delay-sound s (sound-of s e r) p q i j ne d short) r
 keeps (Run t) s e (r, l, room) = of-sound (ticks t s) (ticks-sound t s room (sound-of s e r)) (ticks-ready t s ∙ r)
 keeps (Lose p q) s e (r, i, j, ne) = of-sound _ (lose-sound s (sound-of s e r) p q i j ne) r
 keeps Report s e r = e
-keeps (Rank p x) s e (r, i, few, none) = of-sound _ (rank-sound s (sound-of s e r) p x i few) r
+keeps (Rank p x) s e (r, flash, i, few, none) = of-sound _ (rank-sound s (sound-of s e r) flash p x i few) r
 
 pub perform-keeps : (c : Command) (s : System) → sound s ≡ true → firstFailed (tests s c) ≡ 0 → sound (perform c s) ≡ true
 perform-keeps c s e t = keeps c s e (accepts c s t)

@@ -5,7 +5,7 @@ pub mod Links
 pub mod Places
 pub mod Soundness
 pub mod InitialSound
--- A tick: what the heads do keeps, step by step; it leaves a sound system
+-- A tick: what the heads do keeps what fits, by their kind and step by step; it leaves a sound system
 pub mod Heads
 pub mod Steps
 pub mod Delivery
@@ -20,13 +20,14 @@ pub mod Idle
 pub mod Accepting
 pub mod Changes
 pub mod KeepsSound
--- A schedule, command by command: 15 is never met, and 12 by no bytes; its end, its start counts and ranks, the bytes that matter, going on with it
+-- A schedule, command by command: 15 is never met, and 12 by no bytes; its end, its start counts and ranks, its kind of head, the bytes that matter, going on with it
 pub mod Follow
 pub mod NeverUnsound
 pub mod NoTwelve
 pub mod Followed
 pub mod Counts
 pub mod Ranks
+pub mod Clocks
 pub mod FromOffset
 pub mod Ending
 pub mod FirstOnly

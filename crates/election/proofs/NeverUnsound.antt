@@ -21,7 +21,7 @@ use Rattle.election.proofs.KeepsSound.{keeps-sound}
 
 -- the tests of a command have other numbers
 tests-other : (s : System) (c : Command) → All (λ t. t .0 ≡ false → t .1 ≢ 15) (tests s c)
-tests-other s (SetUp n period) = omega arith
+tests-other s (SetUp clock n period) = omega arith
 tests-other s (Start p) = omega arith
 tests-other s (Crash p) = omega arith
 tests-other s (Link p q d) = omega arith

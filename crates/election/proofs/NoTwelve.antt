@@ -22,7 +22,7 @@ use Rattle.election.proofs.Follow.{ruling-is, follow-refusal}
 
 -- the delay of a link setting is not too long
 abbrev Short : Command → Type 0
-Short (SetUp n period) = Unit {0}
+Short (SetUp clock n period) = Unit {0}
 Short (Start p) = Unit {0}
 Short (Crash p) = Unit {0}
 Short (Link p q d) = d ≤ longestDelay
@@ -42,10 +42,11 @@ short bytes all =
     (λ e. cond-elim Short (eqb b 4) (λ e. omega (arith, byte))
     (λ e. cond-elim Short (eqb b 5) (λ e. tt)
     (λ e. cond-elim Short (eqb b 6) (λ e. tt)
-    (λ e. cond-elim Short (eqb b 8) (λ e. tt) (λ e. tt)))))))
+    (λ e. cond-elim Short (eqb b 8) (λ e. tt)
+    (λ e. cond-elim Short (eqb b 9) (λ e. tt) (λ e. tt))))))))
 
 tests-other : (s : System) (c : Command) → Short c → All (λ t. t .0 ≡ false → t .1 ≢ 12) (tests s c)
-tests-other s (SetUp n period) h = omega arith
+tests-other s (SetUp clock n period) h = omega arith
 tests-other s (Start p) h = omega arith
 tests-other s (Crash p) h = omega arith
 tests-other s (Link p q d) h = (λ e. omega arith, (λ e. omega arith, (λ e. omega arith, (λ e. absurd (true≢false (sym (le-leb d longestDelay h) ∙ e)), tt))))

@@ -245,8 +245,8 @@ module _ (s : System) where
   abbrev ending : ℕ → Station → Station
   ending k = ifUp (expiredNow (expiring s (k + 1)) (next s))
 
-  abbrev slots : Station → Station
-  slots = slottedNow (slotting s (next s)) (next s)
+  abbrev slots : ℕ → Station → Station
+  slots k = slottedNow (slotting s (k + 1) (next s)) (next s)
 
   whole-deliveries : Whole s (afterDeliveries s)
   whole-deliveries = rw deliveries-each (each-keeps (Whole s) (s .n) _ (deskOf s) (λ k r l. whole-received s (k + 1) r) (whole-first s))
@@ -294,17 +294,17 @@ module _ (s : System) where
         ∙ cond-twice (ltb k (s .n)) (ending k) _ (station s (k + 1))
         ∙ ap (λ x. cond (ltb k (s .n)) x (station s (k + 1))) settled-is
 
-    chance-own : (d : Desk) → Whole s d → seatOf k (chance s (k + 1) d) ≡ slots (seatOf k d)
+    chance-own : (d : Desk) → Whole s d → seatOf k (chance s (k + 1) d) ≡ slots k (seatOf k d)
     unfolding chance slottedNow
     chance-own d w = set-if-same (eqb (seatOf k d .slot) (next s)) (d .stations) (k + 1 - 1) _ noStation (omega (arith, w .seats))
 
     chances-at : seatOf k (afterChances s) ≡ cond (ltb k (s .n)) (stationNext s (k + 1)) (station s (k + 1))
     unfolding afterChances
     chances-at =
-        seen-one (seatOf k) (λ j. Whole s) k (λ j. chance s (j + 1)) slots (s .n) (afterTimers s) (λ l. chance-own) (λ j r l ne w. chance-other k j r ne)
+        seen-one (seatOf k) (λ j. Whole s) k (λ j. chance s (j + 1)) (slots k) (s .n) (afterTimers s) (λ l. chance-own) (λ j r l ne w. chance-other k j r ne)
         (λ j r l. whole-chance s (j + 1) r) whole-timers .0
-        ∙ ap (λ x. cond (ltb k (s .n)) (slots x) x) timers-at
-        ∙ cond-twice (ltb k (s .n)) slots (settled s (k + 1)) (station s (k + 1))
+        ∙ ap (λ x. cond (ltb k (s .n)) (slots k x) x) timers-at
+        ∙ cond-twice (ltb k (s .n)) (slots k) (settled s (k + 1)) (station s (k + 1))
 
 -- the place of station k + 1 is k
 pub seat : (k : ℕ) → k + 1 - 1 ≡ k

@@ -15,7 +15,7 @@ use Rattle.lists.proofs.Fold.{each-keeps}
 use Rattle.station.specs.declared.Station.{Station}
 use Rattle.election.specs.Order.{Mail, Desk, deskOf, mailOf, dueNow, oneLess, delivery, delivered, deliveredAll, timerEnds, sentTo, sentToAll, sendsNow, chance, afterDeliveries, afterTimers, afterChances, laid, PaperLinks, PaperMail}
 use Rattle.election.specs.System.{noLink, place, from, to, delay, messages, holding, underway, isLink}
-use Rattle.election.specs.Tick.{next, settled, sending, later, sent, underwayAfter, linkNext, tick}
+use Rattle.election.specs.Tick.{next, announced, settled, sending, later, sent, underwayAfter, linkNext, tick}
 use Rattle.election.specs.declared.Message.{Message}
 use Rattle.election.specs.declared.System.{System}
 use Rattle.election.proofs.Order.{seen-one, set-if-same, set-if-other, length-set-if, Whole, whole-first, whole-delivered, delivered-ascending, linkDeliveries, received, deliveries-each, link-keeps, received-keeps, whole-received, seat, seatOf, whole-chances, Turn, turn-first, turn-next}
@@ -109,7 +109,7 @@ module _ (s : System) (n-high : s .n ≤ 8) (room : s .n ≤ length (s .stations
   abbrev posted : Station → List Message → List Message
   posted x l =
       cond (not (eqb (j + 1) (i + 1)))
-      (l ++ cond (eqb (delay s (j + 1) (i + 1)) 0) [] (record { sent = next s; due = next s + delay s (j + 1) (i + 1); counts = x .recovered } ∷ [])) l
+      (l ++ cond (eqb (delay s (j + 1) (i + 1)) 0) [] (announced (next s) (next s + delay s (j + 1) (i + 1)) x ∷ [])) l
 
   posted-own : (x : Station) (mail : Mail) → length mail ≡ length (s .links)
       → mailOf (sentToAll s (j + 1) x mail) (j + 1) (i + 1) ≡ cond (ltb i (s .n)) (posted x (mailOf mail (j + 1) (i + 1))) (mailOf mail (j + 1) (i + 1))

@@ -72,6 +72,10 @@ module _ (s : System) where
   unfolding tick
   tick-n = refl
 
+  pub tick-clock : tick s .clock ≡ s .clock
+  unfolding tick
+  tick-clock = refl
+
   pub tick-ready : tick s .ready ≡ s .ready
   unfolding tick
   tick-ready = refl

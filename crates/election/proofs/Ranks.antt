@@ -1,7 +1,7 @@
 -- Ranks: after an accepted schedule each is the latest accepted one, 0 if there is none; and none is accepted while a head is up.
 use mathlib.Core.Path.{_≡_, refl, ap, _∙_}
 use mathlib.Core.List.{List, [], _∷_}
-use mathlib.Core.Bool.{true, cond}
+use mathlib.Core.Bool.{Bool, true, false, cond}
 use Prim.Native.Nat.{ℕ, zero, suc, _-_, _≤_}
 use native.Mathlib.Decide.{ℕ-discrete}
 use native.Mathlib.Omega.{arith}
@@ -40,9 +40,9 @@ fresh-ranks : fresh .ranks ≡ replicate 8 0
 unfolding fresh
 fresh-ranks = refl
 
-initial-ranks : (n period : ℕ) → initial n period .ranks ≡ replicate 8 0
+initial-ranks : (clock : Bool) (n period : ℕ) → initial clock n period .ranks ≡ replicate 8 0
 unfolding initial
-initial-ranks n period = refl
+initial-ranks clock n period = refl
 
 zero-rank : (p : ℕ) → entry (replicate 8 0) p ≡ 0
 zero-rank p = zeros-at (p - 1)
@@ -50,7 +50,7 @@ zero-rank p = zeros-at (p - 1)
 -- an accepted command leaves eight ranks
 eight-after : (c : Command) (s : System) → length (s .ranks) ≡ 8 → length (perform c s .ranks) ≡ 8
 unfolding perform
-eight-after (SetUp n period) s h = ap length (initial-ranks n period) ∙ length-replicate {A = ℕ} 8 0
+eight-after (SetUp clock n period) s h = ap length (initial-ranks clock n period) ∙ length-replicate {A = ℕ} 8 0
 eight-after (Start p) s h = h
 eight-after (Crash p) s h = h
 eight-after (Link p q d) s h = h
@@ -62,14 +62,14 @@ eight-after (Rank p r) s h = length-set (s .ranks) (p - 1) r ∙ h
 -- and makes of the rank of station x what the history says
 rank-after : (c : Command) (s : System) → length (s .ranks) ≡ 8 → Accepts c s → (x : ℕ) → In 8 x → entry (perform c s .ranks) x ≡ rankOf (entry (s .ranks) x) x (c ∷ [])
 unfolding perform rankOf
-rank-after (SetUp n period) s h a x i = ap (λ l. entry l x) (initial-ranks n period) ∙ zero-rank x
+rank-after (SetUp clock n period) s h a x i = ap (λ l. entry l x) (initial-ranks clock n period) ∙ zero-rank x
 rank-after (Start p) s h a x i = refl
 rank-after (Crash p) s h a x i = refl
 rank-after (Link p q d) s h a x i = refl
 rank-after (Run t) s h a x i = ap (λ l. entry l x) (ticks-ranks t s)
 rank-after (Lose p q) s h a x i = refl
 rank-after Report s h a x i = refl
-rank-after (Rank p r) s h (ready, ip, few, none) x i = go (ℕ-discrete p x)
+rank-after (Rank p r) s h (ready, flash, ip, few, none) x i = go (ℕ-discrete p x)
   where
     go : Dec (p ≡ x) → entry (set (s .ranks) (p - 1) r) x ≡ cond (eqb p x) r (entry (s .ranks) x)
     go (yes e) = rw (eq-eqb p x e, e) (getD-set-same (s .ranks) (x - 1) r 0 (omega (arith, i .low, i .high)))
@@ -77,7 +77,7 @@ rank-after (Rank p r) s h (ready, ip, few, none) x i = go (ℕ-discrete p x)
 
 rank-more : (r x : ℕ) (c : Command) (cs : List Command) → rankOf (rankOf r x (c ∷ [])) x cs ≡ rankOf r x (c ∷ cs)
 unfolding rankOf
-rank-more r x (SetUp n period) cs = refl
+rank-more r x (SetUp clock n period) cs = refl
 rank-more r x (Start p) cs = refl
 rank-more r x (Crash p) cs = refl
 rank-more r x (Link p q d) cs = refl
@@ -105,12 +105,12 @@ rank-is-latest bytes e p low high =
     ∙ ap (λ r. rankOf r p (commands bytes)) (ap (λ l. entry l p) fresh-ranks ∙ zero-rank p)
 
 -- where no head was ever started none is up, so that no rank is accepted while one is
-pub nobody-up : (s : System) → Sound s → noneStarted (s .stations) ≡ true → (p : ℕ) → In (s .n) p → station s p .up ≡ true → ⊥
-nobody-up s f none p ip u =
+pub nobody-up : (s : System) → Sound s → s .clock ≡ false → noneStarted (s .stations) ≡ true → (p : ℕ) → In (s .n) p → station s p .up ≡ true → ⊥
+nobody-up s f flash none p ip u =
     let zero : station s p .incarnation ≡ 0 = eqb-true _ 0 (all-at 8 (p - 1) (λ k. eqb (getD (s .stations) k noStation .incarnation) 0) none (omega (arith, ip .low, ip .high, f .n-high))) in
-    omega (arith, fit-of p (s .n) (s .period) (s .tick) (station s p) (f .fits p ip) u .0 .living .count)
+    omega (arith, fit-of p (s .n) (s .period) (s .tick) (station s p) (rw flash at (f .fits p ip)) u .0 .living .count)
 
 pub rank-refused-while-up : RankRefusedWhileUp
 rank-refused-while-up s e ready q low high u p r t =
-    let (is, ip, few, none) = accepts (Rank p r) s t in
-    nobody-up s (sound-of s e ready) none q (record { low = low; high = high }) u
+    let (is, flash, ip, few, none) = accepts (Rank p r) s t in
+    nobody-up s (sound-of s e ready) flash none q (record { low = low; high = high }) u

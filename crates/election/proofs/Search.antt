@@ -19,14 +19,14 @@ use Rattle.station.proofs.Fields.{crashed-up}
 use Rattle.election.specs.Listing.{verdict}
 use Rattle.election.specs.Search.{isSplit, endsAt, SameTo, CanOnlySplit, CanOnlySplitSound, EndsThere, EndsExact, EndsExactSound, OnlySplit, NotBefore, NotBeforeSound, ElseLast}
 use Rattle.election.specs.System.{noStation, stationOf, station, withStations, withStation}
-use Rattle.election.specs.Verdicts.{Up, TwoDiffer}
+use Rattle.election.specs.Verdicts.{Up, trusted, Disagree}
 use Rattle.election.specs.declared.System.{System}
 use Rattle.election.specs.declared.Verdict.{Verdict}
 use Rattle.election.specs.declared.Verdict.the-variants.{Dark, Agreed, AgreedDark, Split}
 use Rattle.election.proofs.Changes.{crash-sound, changed-same, changed-other}
 use Rattle.election.proofs.Places.{In}
 use Rattle.election.proofs.Soundness.{Sound, sound-of, of-sound}
-use Rattle.election.proofs.Verdicts.{verdict-exact}
+use Rattle.election.proofs.Verdicts.{verdict-exact, disagree-some}
 
 pub is-split : (v : Verdict) → isSplit v ≡ true → v ≡ Split
 is-split Dark e = absurd (true≢false (sym e))
@@ -34,25 +34,26 @@ is-split (Agreed l) e = absurd (true≢false (sym e))
 is-split (AgreedDark l) e = absurd (true≢false (sym e))
 is-split Split e = refl
 
--- the first k are split exactly where two up ones of them differ
-pub split-differ : (k : ℕ) (stations : List Station) → isSplit (verdict k stations) ≡ true → TwoDiffer k stations
-split-differ k stations e = verdict-exact k stations Split .0 (is-split (verdict k stations) e)
+-- the first k are split exactly where the up ones of them do not agree
+pub split-disagree : (k : ℕ) (stations : List Station) → isSplit (verdict k stations) ≡ true → Disagree k stations
+split-disagree k stations e = verdict-exact k stations Split .0 (is-split (verdict k stations) e)
 
-pub differ-split : (k : ℕ) (stations : List Station) → TwoDiffer k stations → isSplit (verdict k stations) ≡ true
-differ-split k stations d = ap isSplit (verdict-exact k stations Split .1 d)
+pub disagree-split : (k : ℕ) (stations : List Station) → Disagree k stations → isSplit (verdict k stations) ≡ true
+disagree-split k stations d = ap isSplit (verdict-exact k stations Split .1 d)
 
--- two lists with the same first k stations: what differs among these differs among more
+-- up stations that are up in another list too and trust the same there do not agree there either
+disagree-there : (k n : ℕ) (stations others : List Station) → ((p : ℕ) → Up k stations p → Up n others p × (trusted others p ≡ trusted stations p)) → Disagree k stations → Disagree n others
+disagree-there k n stations others f (inl (p, q, u, v, ne)) = inl (p, q, f p u .0, f q v .0, λ e. ne (sym (f p u .1) ∙ e ∙ f q v .1))
+disagree-there k n stations others f (inr (p, u, e)) = inr (p, f p u .0, f p u .1 ∙ e)
+
+-- two lists with the same first k stations: where these do not agree, more do not
 module _ (k n : ℕ) (stations others : List Station) (same : SameTo k stations others) where
-  widened : k ≤ n → TwoDiffer k stations → TwoDiffer n others
-  widened h (p, q, (a, b, u), (c, d, v), ne) = (
-    p,
-    q,
-    (a, omega (arith, b, h), ap (λ x. x .up) (same p a b) ∙ u),
-    (c, omega (arith, d, h), ap (λ x. x .up) (same q c d) ∙ v),
-    λ e. ne (sym (ap (λ x. x .leader) (same p a b)) ∙ e ∙ ap (λ x. x .leader) (same q c d)),
-  )
+  widened : k ≤ n → Disagree k stations → Disagree n others
+  widened h =
+      disagree-there k n stations others
+      (λ p u. ((u .0, omega (arith, u .1, h), ap (λ x. x .up) (same p (u .0) (u .1)) ∙ u .2), ap (λ x. x .leader) (same p (u .0) (u .1))))
 
-  -- and where those after k are down, what differs among more differs among these
+  -- and where those after k are down and more do not agree, these do not
   module _ (down : (p : ℕ) → k < p → p ≤ n → stationOf others p .up ≡ false) where
     among : (p : ℕ) → Up n others p → p ≤ k
     among p (low, high, u) = go (decLt k p)
@@ -61,24 +62,18 @@ module _ (k n : ℕ) (stations others : List Station) (same : SameTo k stations 
         go (yes l) = absurd (true≢false (sym u ∙ down p l high))
         go (no l) = omega (arith, l)
 
-    narrowed : TwoDiffer n others → TwoDiffer k stations
-    narrowed (p, q, (a, b, u), (c, d, v), ne) =
-        let i : p ≤ k = among p (a, b, u) in
-        let j : q ≤ k = among q (c, d, v) in (
-          p,
-          q,
-          (a, i, sym (ap (λ x. x .up) (same p a i)) ∙ u),
-          (c, j, sym (ap (λ x. x .up) (same q c j)) ∙ v),
-          λ e. ne (ap (λ x. x .leader) (same p a i) ∙ e ∙ sym (ap (λ x. x .leader) (same q c j))),
-        )
+    narrowed : Disagree n others → Disagree k stations
+    narrowed =
+        disagree-there n k others stations
+        (λ p u. ((u .0, among p u, sym (ap (λ x. x .up) (same p (u .0) (among p u))) ∙ u .2), sym (ap (λ x. x .leader) (same p (u .0) (among p u)))))
 
     -- so they are not split where these are not
     not-split : isSplit (verdict k stations) ≡ false → verdict n others ≢ Split
-    not-split e f = true≢false (sym (differ-split k stations (narrowed (verdict-exact n others Split .0 f))) ∙ e)
+    not-split e f = true≢false (sym (disagree-split k stations (narrowed (verdict-exact n others Split .0 f))) ∙ e)
 
 -- split, they stay so
 pub stays-split : (k n : ℕ) (stations : List Station) → k ≤ n → isSplit (verdict k stations) ≡ true → isSplit (verdict n stations) ≡ true
-stays-split k n stations h e = differ-split n stations (widened k n stations stations (λ p a b. refl) h (split-differ k stations e))
+stays-split k n stations h e = disagree-split n stations (widened k n stations stations (λ p a b. refl) h (split-disagree k stations e))
 
 -- where it ends
 pub record SearchEnds (n : ℕ) (stations : List Station) (p : ℕ) : Type 0 where
@@ -132,7 +127,7 @@ pub only-split : OnlySplit
 only-split n stations e others same =
     let r : SearchEnds n stations (endsAt n stations) = search-ends n stations in
     verdict-exact n others Split .1
-    (widened (endsAt n stations) n stations others same (r .high) (split-differ (endsAt n stations) stations (r .split (ap isSplit e))))
+    (widened (endsAt n stations) n stations others same (r .high) (split-disagree (endsAt n stations) stations (r .split (ap isSplit e))))
 
 -- the first k stations of a list, and those after them down
 abbrev restDown : ℕ → List Station → ℕ → Station
@@ -225,8 +220,8 @@ ends-up : (n : ℕ) (stations : List Station) → isSplit (verdict n stations) �
 ends-up n stations e =
     let r : SearchEnds n stations (endsAt n stations) = search-ends n stations in
     let p : ℕ = endsAt n stations in
-    let d : TwoDiffer p stations = split-differ p stations (r .split e) in
-    let low : 1 ≤ p = omega (arith, d .2 .0, d .2 .1) in (
+    let (q, (q-low, q-high, v)) = disagree-some p stations (split-disagree p stations (r .split e)) in
+    let low : 1 ≤ p = omega (arith, q-low, q-high) in (
       low,
       r .high,
       true-unless (stationOf stations p .up)

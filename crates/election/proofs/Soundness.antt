@@ -12,9 +12,10 @@ use borrow.Author.Tests.{ltb-true, leb-true, eqb-true, eqb-false, lt-ltb, le-ltb
 use Rattle.lists.specs.Test.{allTo}
 use Rattle.lists.proofs.Bools.{both, three, six}
 use Rattle.lists.proofs.Test.{all-at, all-of}
-use Rattle.fit.specs.Fit.{within, ranksIn, fit, longestDelay}
+use Rattle.fit.specs.Fit.{within, ranksIn, longestDelay}
 use Rattle.station.specs.Limits.{lastTick}
 use Rattle.fit.proofs.Tests.{within-of, of-within}
+use Rattle.election.specs.Heads.{fits as fitsOf, rankedOf}
 use Rattle.election.specs.System.{noStation, noLink, station, place, from, to, delay, sentBy, messages, underway, isLink}
 use Rattle.election.specs.Sound.{linkIn, emptyPlaces, emptyPlace, emptySeat, placeIn, stationIn, sound}
 use Rattle.election.specs.declared.Link.{Link}
@@ -29,13 +30,13 @@ pub record Sound (s : System) : Type 0 where
   pub period-low : 16 ≤ s .period
   pub period-high : s .period ≤ 255
   pub tick-high : s .tick ≤ 1000000
-  pub fits : (p : ℕ) → In (s .n) p → fit p (s .n) (s .period) (s .tick) (station s p) ≡ true
+  pub fits : (p : ℕ) → In (s .n) p → fitsOf (s .clock) p (s .n) (s .period) (s .tick) (station s p) ≡ true
   pub few : (p : ℕ) → In (s .n) p → sentBy s p ≤ 7 * s .tick
   pub no-station : (k : ℕ) → s .n ≤ k → k < 8 → emptySeat (getD (s .stations) k noStation) (getD (s .sent) k 0) ≡ true
   pub short : (p q : ℕ) → In (s .n) p → In (s .n) q → p ≢ q → delay s p q ≤ longestDelay
-  pub linked : (p q : ℕ) → In (s .n) p → In (s .n) q → p ≢ q → Linked (s .n) (s .period) (s .tick) (station s p) (getD (s .links) (place p q) noLink)
+  pub linked : (p q : ℕ) → In (s .n) p → In (s .n) q → p ≢ q → Linked (s .clock) (s .n) (s .period) (s .tick) (station s p) (getD (s .links) (place p q) noLink)
   pub no-link : (k : ℕ) → k < 64 → isLink (s .n) (from k) (to k) ≡ false → emptyPlace (getD (s .delays) k 0) (getD (s .links) k noLink) ≡ true
-  pub ranked : ranksIn (s .n) (s .ranks) ≡ true
+  pub ranked : ranksIn (rankedOf (s .clock) (s .n)) (s .ranks) ≡ true
 
 -- which places are links
 module _ (n p q : ℕ) (hp : 1 ≤ p) (hq : 1 ≤ q) where
@@ -58,11 +59,11 @@ pub place-of : (k : ℕ) → k < 64 → place (from k) (to k) ≡ k
 place-of k h = omega arith
 
 module _ (s : System) where
-  station-at : (p : ℕ) → In (s .n) p → stationIn s (p - 1) ≡ (fit p (s .n) (s .period) (s .tick) (station s p) && leb (sentBy s p) (7 * s .tick))
+  station-at : (p : ℕ) → In (s .n) p → stationIn s (p - 1) ≡ (fitsOf (s .clock) p (s .n) (s .period) (s .tick) (station s p) && leb (sentBy s p) (7 * s .tick))
   unfolding stationIn
   station-at p h = let e : p - 1 + 1 ≡ p = omega (arith, h .low) in rw (lt-ltb (p - 1) (s .n) (omega (arith, h .low, h .high)), e)
 
-  place-at : s .n ≤ 8 → (p q : ℕ) → In (s .n) p → In (s .n) q → p ≢ q → placeIn s (place p q) ≡ (leb (delay s p q) longestDelay && linkIn (s .n) (s .period) (s .tick) (station s p) (getD (s .links) (place p q) noLink))
+  place-at : s .n ≤ 8 → (p q : ℕ) → In (s .n) p → In (s .n) q → p ≢ q → placeIn s (place p q) ≡ (leb (delay s p q) longestDelay && linkIn (s .clock) (s .n) (s .period) (s .tick) (station s p) (getD (s .links) (place p q) noLink))
   unfolding placeIn
   place-at h p q hp hq ne =
       let wp : In 8 p = widen (s .n) p h hp in
@@ -70,26 +71,26 @@ module _ (s : System) where
       rw (from-place p q wp wq, to-place p q wp wq, is-link (s .n) p q hp hq ne)
 
   -- a system that is set up: every clause holds
-  pub clauses : s .ready ≡ true → sound s ≡ (within 2 (s .n) 8 && within 16 (s .period) 255 && leb (s .tick) lastTick && allTo 8 (stationIn s) && allTo 64 (placeIn s) && ranksIn (s .n) (s .ranks))
+  pub clauses : s .ready ≡ true → sound s ≡ (within 2 (s .n) 8 && within 16 (s .period) 255 && leb (s .tick) lastTick && allTo 8 (stationIn s) && allTo 64 (placeIn s) && ranksIn (rankedOf (s .clock) (s .n)) (s .ranks))
   unfolding sound
   clauses u = rw u
 
   seat-holds : allTo 8 (stationIn s) ≡ true → s .n ≤ 8 → (p : ℕ) → In (s .n) p
-      → (fit p (s .n) (s .period) (s .tick) (station s p) ≡ true) × (leb (sentBy s p) (7 * s .tick) ≡ true)
+      → (fitsOf (s .clock) p (s .n) (s .period) (s .tick) (station s p) ≡ true) × (leb (sentBy s p) (7 * s .tick) ≡ true)
   seat-holds e h p i =
-      both (fit p (s .n) (s .period) (s .tick) (station s p)) (leb (sentBy s p) (7 * s .tick))
+      both (fitsOf (s .clock) p (s .n) (s .period) (s .tick) (station s p)) (leb (sentBy s p) (7 * s .tick))
       (sym (station-at p i) ∙ all-at 8 (p - 1) (stationIn s) e (omega (arith, i .low, i .high)))
 
   link-holds : allTo 64 (placeIn s) ≡ true → s .n ≤ 8 → (p q : ℕ) → In (s .n) p → In (s .n) q → p ≢ q
-      → (leb (delay s p q) longestDelay ≡ true) × (linkIn (s .n) (s .period) (s .tick) (station s p) (getD (s .links) (place p q) noLink) ≡ true)
+      → (leb (delay s p q) longestDelay ≡ true) × (linkIn (s .clock) (s .n) (s .period) (s .tick) (station s p) (getD (s .links) (place p q) noLink) ≡ true)
   link-holds e h p q hp hq ne =
-      both (leb (delay s p q) longestDelay) (linkIn (s .n) (s .period) (s .tick) (station s p) (getD (s .links) (place p q) noLink))
+      both (leb (delay s p q) longestDelay) (linkIn (s .clock) (s .n) (s .period) (s .tick) (station s p) (getD (s .links) (place p q) noLink))
       (sym (place-at h p q hp hq ne) ∙ all-at 64 (place p q) (placeIn s) e (place-in p q (widen (s .n) p h hp) (widen (s .n) q h hq)))
 
   pub sound-of : sound s ≡ true → s .ready ≡ true → Sound s
   unfolding stationIn placeIn emptySeat emptyPlace
   sound-of e u =
-      let (n, period, tick, stations, places, ranks) = six (within 2 (s .n) 8) (within 16 (s .period) 255) (leb (s .tick) lastTick) (allTo 8 (stationIn s)) (allTo 64 (placeIn s)) (ranksIn (s .n) (s .ranks)) (sym (clauses u) ∙ e) in
+      let (n, period, tick, stations, places, ranks) = six (within 2 (s .n) 8) (within 16 (s .period) 255) (leb (s .tick) lastTick) (allTo 8 (stationIn s)) (allTo 64 (placeIn s)) (ranksIn (rankedOf (s .clock) (s .n)) (s .ranks)) (sym (clauses u) ∙ e) in
       let (n-low, n-high) = within-of 2 (s .n) 8 n in
       let (p-low, p-high) = within-of 16 (s .period) 255 period in
       record {
@@ -102,7 +103,7 @@ module _ (s : System) where
         few = λ p h. leb-true (sentBy s p) (7 * s .tick) (seat-holds stations n-high p h .1);
         no-station = λ k l h. rw (le-ltb k (s .n) l) at (all-at 8 k (stationIn s) stations h);
         short = λ p q hp hq ne. leb-true (delay s p q) longestDelay (link-holds places n-high p q hp hq ne .0);
-        linked = λ p q hp hq ne. linked-of (s .n) (s .period) (s .tick) (station s p) (getD (s .links) (place p q) noLink) (link-holds places n-high p q hp hq ne .1);
+        linked = λ p q hp hq ne. linked-of (s .clock) (s .n) (s .period) (s .tick) (station s p) (getD (s .links) (place p q) noLink) (link-holds places n-high p q hp hq ne .1);
         no-link = λ k h l. rw l at (all-at 64 k (placeIn s) places h);
         ranked = ranks;
       }
@@ -125,14 +126,14 @@ module _ (s : System) where
           let (hp, hq, ne) = link-of (s .n) (from k) (to k) (omega arith) (omega arith) e in
           subst (λ x. placeIn s x ≡ true) (place-of k h)
           (place-at (f .n-high) (from k) (to k) hp hq ne
-          ∙ rw (le-leb (delay s (from k) (to k)) longestDelay (f .short (from k) (to k) hp hq ne), of-linked (s .n) (s .period) (s .tick) (station s (from k)) (getD (s .links) (place (from k) (to k)) noLink) (f .linked (from k) (to k) hp hq ne)))
+          ∙ rw (le-leb (delay s (from k) (to k)) longestDelay (f .short (from k) (to k) hp hq ne), of-linked (s .clock) (s .n) (s .period) (s .tick) (station s (from k)) (getD (s .links) (place (from k) (to k)) noLink) (f .linked (from k) (to k) hp hq ne)))
       at k h false e = rw e (f .no-link k h e)
 
 -- what is under way on a link, and that nothing is where there is no link, as from a station to itself
 module _ (s : System) (f : Sound s) where
-  pub underway-spaced : (p q : ℕ) → In (s .n) p → In (s .n) q → p ≢ q → Spaced (Posted (s .n) (s .period) (s .tick) (station s p)) (s .period) 0 (underway s p q)
+  pub underway-spaced : (p q : ℕ) → In (s .n) p → In (s .n) q → p ≢ q → Spaced (Posted (s .clock) (s .n) (s .period) (s .tick) (station s p)) (s .period) 0 (underway s p q)
   underway-spaced p q hp hq ne =
-      linked-spaced (s .n) (s .period) (s .tick) (station s p) (getD (s .links) (place p q) noLink) (f .linked p q hp hq ne)
+      linked-spaced (s .clock) (s .n) (s .period) (s .tick) (station s p) (getD (s .links) (place p q) noLink) (f .linked p q hp hq ne)
 
   pub underway-nowhere : (k : ℕ) → k < 64 → isLink (s .n) (from k) (to k) ≡ false → messages (getD (s .links) k noLink) ≡ []
   unfolding emptyPlace messages

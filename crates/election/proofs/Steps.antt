@@ -18,7 +18,7 @@ use Rattle.election.specs.System.{station, underway}
 use Rattle.election.specs.Tick.{next, heardLink, heardAll, expiredNow, slottedNow, heardBy, settled, sending, tick}
 use Rattle.election.specs.declared.Message.{Message}
 use Rattle.election.specs.declared.System.{System}
-use Rattle.election.proofs.Heads.{hearing-unchanged, hearing-timeouts, expiring-unchanged, slotting-up, slotting-count, slotting-slot, announces-self}
+use Rattle.election.proofs.Heads.{hearing-unchanged, hearing-timeouts, expiring-unchanged, slotting-up, slotting-count, slotting-slot}
 use Rattle.election.proofs.Places.{In, seat-in, tick-station}
 
 pub expiredNow-elim : (P : Station → Type 0) (expire : Station → Station) (now : ℕ) (x : Station) → (x .timer ≡ now → P (expire x)) → (x .timer ≢ now → P x) → P (expiredNow expire now x)
@@ -65,8 +65,10 @@ pub heardAll-unchanged : (s : System) (n p now : ℕ) (inbox : ℕ → List Mess
 heardAll-unchanged s n p now inbox x =
     any-keeps (hearing s) (Unchanged x) n p now inbox (λ q m y h. then-unchanged x y (hearing s p q m now y) h (hearing-unchanged s p q m now y)) x (unchanged x)
 
-pub heardAll-timeouts : (s : System) (n p now : ℕ) (inbox : ℕ → List Message) (x : Station) → heardAll (hearing s) n p now inbox x .timeouts ≡ x .timeouts
-heardAll-timeouts s n p now inbox x = any-keeps (hearing s) (λ (y : Station). y .timeouts ≡ x .timeouts) n p now inbox (λ q m y h. hearing-timeouts s p q m now y ∙ h) x refl
+pub heardAll-timeouts : (s : System) (n p now : ℕ) (inbox : ℕ → List Message) (x : Station) → (heardAll (hearing s) n p now inbox x .timeouts ≡ x .timeouts) × (heardAll (hearing s) n p now inbox x .timeout ≡ x .timeout)
+heardAll-timeouts s n p now inbox x =
+    any-keeps (hearing s) (λ (y : Station). (y .timeouts ≡ x .timeouts) × (y .timeout ≡ x .timeout)) n p now inbox
+    (λ q m y h. let (a, b) = hearing-timeouts s p q m now y in (a ∙ h .0, b ∙ h .1)) x (refl, refl)
 
 module _ (s : System) (p : ℕ) where
   pub settled-up : station s p .up ≡ true → settled s p ≡ expiredNow (expiring s p) (next s) (heardBy s p (station s p))
@@ -87,39 +89,39 @@ module _ (s : System) (p : ℕ) where
       expiredNow-elim (Unchanged (station s p)) (expiring s p) (next s) x (λ f. then-unchanged (station s p) x (expiring s p x) h (expiring-unchanged s p x)) (λ f. h))
       (λ e. unchanged (station s p))
 
--- who sends is up, at its send chance, and trusts itself
-pub sending-of : (s : System) (p : ℕ) → sending s p ≡ true → (station s p .up ≡ true) × (station s p .slot ≡ next s) × (settled s p .leader ≡ p)
+-- who sends is up and at its send chance
+pub sending-of : (s : System) (p : ℕ) → sending s p ≡ true → (station s p .up ≡ true) × (station s p .slot ≡ next s)
 unfolding sending
 sending-of s p e =
     let (a, b, c) = three (settled s p .up) (eqb (settled s p .slot) (next s)) (announces s p (settled s p)) e in
     let u : Unchanged (station s p) (settled s p) = settled-unchanged s p in
-    (sym (u .up) ∙ a, sym (u .slot) ∙ eqb-true _ _ b, announces-self s p (settled s p) c)
+    (sym (u .up) ∙ a, sym (u .slot) ∙ eqb-true _ _ b)
 
 -- what a tick does to whether a station is up, to its start count and to its send chance
 module _ (s : System) (n-high : s .n ≤ 8) (p : ℕ) (ip : In (s .n) p) where
   pub tick-up : station (tick s) p .up ≡ station s p .up
   tick-up =
       ap (λ (y : Station). y .up) (tick-station s n-high p ip)
-      ∙ slottedNow-elim (λ (y : Station). y .up ≡ station s p .up) (slotting s (next s)) (next s) (settled s p) (λ e. slotting-up s (next s) (settled s p) ∙ settled-unchanged s p .up) (λ e. settled-unchanged s p .up)
+      ∙ slottedNow-elim (λ (y : Station). y .up ≡ station s p .up) (slotting s p (next s)) (next s) (settled s p) (λ e. slotting-up s p (next s) (settled s p) ∙ settled-unchanged s p .up) (λ e. settled-unchanged s p .up)
 
   pub tick-count : station (tick s) p .incarnation ≡ station s p .incarnation
   tick-count =
       ap (λ (y : Station). y .incarnation) (tick-station s n-high p ip)
-      ∙ slottedNow-elim (λ (y : Station). y .incarnation ≡ station s p .incarnation) (slotting s (next s)) (next s) (settled s p) (λ e. slotting-count s (next s) (settled s p) ∙ settled-unchanged s p .incarnation) (λ e. settled-unchanged s p .incarnation)
+      ∙ slottedNow-elim (λ (y : Station). y .incarnation ≡ station s p .incarnation) (slotting s p (next s)) (next s) (settled s p) (λ e. slotting-count s p (next s) (settled s p) ∙ settled-unchanged s p .incarnation) (λ e. settled-unchanged s p .incarnation)
 
   pub tick-slotted : station s p .slot ≡ next s → station (tick s) p .slot ≡ next s + s .period
   tick-slotted e =
       rw (tick-station s n-high p ip)
-      (slottedNow-elim (λ (y : Station). y .slot ≡ next s + s .period) (slotting s (next s)) (next s) (settled s p) (λ f. slotting-slot s (next s) (settled s p)) (λ ne. absurd (ne (settled-unchanged s p .slot ∙ e))))
+      (slottedNow-elim (λ (y : Station). y .slot ≡ next s + s .period) (slotting s p (next s)) (next s) (settled s p) (λ f. slotting-slot s p (next s) (settled s p)) (λ ne. absurd (ne (settled-unchanged s p .slot ∙ e))))
 
   pub tick-unslotted : station s p .slot ≢ next s → station (tick s) p .slot ≡ station s p .slot
   tick-unslotted ne =
       rw (tick-station s n-high p ip)
-      (slottedNow-elim (λ (y : Station). y .slot ≡ station s p .slot) (slotting s (next s)) (next s) (settled s p) (λ e. absurd (ne (sym (settled-unchanged s p .slot) ∙ e))) (λ f. settled-unchanged s p .slot))
+      (slottedNow-elim (λ (y : Station). y .slot ≡ station s p .slot) (slotting s p (next s)) (next s) (settled s p) (λ e. absurd (ne (sym (settled-unchanged s p .slot) ∙ e))) (λ f. settled-unchanged s p .slot))
 
   -- which does not come earlier
   pub tick-slot : station s p .slot ≤ station (tick s) p .slot
   tick-slot =
       let same : settled s p .slot ≡ station s p .slot = settled-unchanged s p .slot in
       rw (tick-station s n-high p ip)
-      (slottedNow-elim (λ (y : Station). station s p .slot ≤ y .slot) (slotting s (next s)) (next s) (settled s p) (λ e. omega (arith, slotting-slot s (next s) (settled s p))) (λ e. omega arith))
+      (slottedNow-elim (λ (y : Station). station s p .slot ≤ y .slot) (slotting s p (next s)) (next s) (settled s p) (λ e. omega (arith, slotting-slot s p (next s) (settled s p))) (λ e. omega arith))

@@ -8,6 +8,7 @@ use native.Mathlib.Decide.{ℕ-discrete}
 use lib.Dec.{ltb}
 use lib.ListN.{length, drop}
 use borrow.Author.Tests.{eq-eqb, ne-eqb}
+use Rattle.election.specs.Clocked.{elections, refusals, ClocksRehearsed}
 use Rattle.election.specs.Commands.{Command, decode, operands, ruling, perform, command}
 use Rattle.election.specs.Errors.{errors, prints, NoneOfTheErrors}
 use Rattle.election.specs.Listing.{reported, lastLine, reports, output}
@@ -18,7 +19,7 @@ use Rattle.election.specs.Schedule.{End, follow, mostBytes, schedule}
 use Rattle.election.specs.Sound.{sound}
 use Rattle.election.specs.System.{fresh}
 use Rattle.election.specs.declared.System.{System}
-use Rattle.election.proofs.Computed.{errors-ruled, prints-ruled, spelled-out, rehearsals-ruled, preferences-ruled, changes-ruled}
+use Rattle.election.proofs.Computed.{errors-ruled, prints-ruled, spelled-out, rehearsals-ruled, preferences-ruled, changes-ruled, elections-ruled, refusals-ruled}
 use Rattle.election.proofs.Follow.{follow-yes, follow-stops, reports-yes, reports-stops}
 use Rattle.election.proofs.Followed.{rules-refusal, rules-performs, rules-length}
 use Rattle.election.proofs.InitialSound.{fresh-sound}
@@ -91,11 +92,14 @@ hold-ruled (r ∷ rows) h = (viewed-ruled (r .view) (r .bytes) (h .0 .0) ∙ h .
 
 pub errors-ruled-out : NoneOfTheErrors
 errors-ruled-out =
-    let (dark, decimals, none, two, eight) = spelled-out in
-    (hold-ruled errors errors-ruled, hold-ruled prints prints-ruled, dark, decimals, none, two, eight)
+    let (dark, decimals, none, two, clocks, eight) = spelled-out in
+    (hold-ruled errors errors-ruled, hold-ruled prints prints-ruled, dark, decimals, none, two, clocks, eight)
 
 pub rehearsed : Rehearsed
 rehearsed = hold-ruled rehearsals rehearsals-ruled
 
 pub ranks-rehearsed : RanksRehearsed
 ranks-rehearsed = (hold-ruled preferences preferences-ruled, hold-ruled changes changes-ruled)
+
+pub clocks-rehearsed : ClocksRehearsed
+clocks-rehearsed = (hold-ruled elections elections-ruled, hold-ruled refusals refusals-ruled)

@@ -14,39 +14,40 @@ use Rattle.lists.proofs.Entries.{getD-upTo}
 use Rattle.election.specs.Claims.{LinkRoom}
 use Rattle.election.specs.Sound.{emptyPlace, emptySeat}
 use Rattle.election.specs.System.{noStation, noLink, station, place, from, to, delay, sentBy, underway, isLink, places}
-use Rattle.election.specs.Tick.{next, settled, sending, later, sent, underwayAfter, seatNext, sentNext, linkNext, tick, ticks}
+use Rattle.election.specs.Tick.{next, announced, settled, sending, later, sent, underwayAfter, seatNext, sentNext, linkNext, tick, ticks}
 use Rattle.election.specs.declared.Message.{Message}
 use Rattle.election.specs.declared.System.{System}
+use Rattle.election.proofs.Heads.{content-later}
 use Rattle.election.proofs.Links.{Posted, Linked, holding-linked}
 use Rattle.election.proofs.Places.{In, tick-tick, tick-ready, tick-sent, tick-link}
 use Rattle.election.proofs.Soundness.{Sound, sound-of, underway-spaced}
 use Rattle.election.proofs.Spaced.{Spaced, raise, respace, spaced-snoc, spaced-later, in-window}
-use Rattle.election.proofs.StationTick.{tick-fits, sends-counts}
+use Rattle.election.proofs.StationTick.{tick-fits, sends-content}
 use Rattle.election.proofs.Steps.{sending-of, tick-up, tick-slotted, tick-slot}
 
 module _ (s : System) (f : Sound s) (before : s .tick < 1000000) where
   -- one link
   module _ (p q : ℕ) (hp : In (s .n) p) (hq : In (s .n) q) (ne : p ≢ q) where
     abbrev Old : Message → Type 0
-    Old m = Posted (s .n) (s .period) (s .tick) (station s p) m × (m .due ≢ next s)
+    Old m = Posted (s .clock) (s .n) (s .period) (s .tick) (station s p) m × (m .due ≢ next s)
 
     abbrev New : Message → Type 0
-    New = Posted (s .n) (s .period) (next s) (station (tick s) p)
+    New = Posted (s .clock) (s .n) (s .period) (next s) (station (tick s) p)
 
     -- a message that is not due now stays under way
-    carried : (m : Message) → Old m → New m
-    carried m (o, late) =
+    stays : (m : Message) → Old m → New m
+    stays m (o, late) =
         record {
           sent-by = omega (arith, o .sent-by);
           due-after = omega (arith, o .due-after);
           due-by = o .due-by;
-          counts = o .counts;
+          content = content-later (s .clock) (s .n) (s .period) (s .tick) (next s) m (omega arith) (o .content);
           before = λ u. omega (arith, o .before (sym (tick-up s (f .n-high) p hp) ∙ u), tick-slot s (f .n-high) p hp);
         }
 
     -- the message that is sent now
     abbrev message : Message
-    message = record { sent = next s; due = next s + delay s p q; counts = settled s p .recovered }
+    message = announced (next s) (next s + delay s p q) (settled s p)
 
     new : sending s p ≡ true → delay s p q ≢ 0 → New message
     new e some =
@@ -54,7 +55,7 @@ module _ (s : System) (f : Sound s) (before : s .tick < 1000000) where
           sent-by = omega arith;
           due-after = omega arith;
           due-by = omega (arith, f .short p q hp hq ne);
-          counts = sends-counts s f before p hp e;
+          content = sends-content s f before p hp (next s + delay s p q) e;
           before = λ u. omega (arith, tick-slotted s (f .n-high) p hp (sending-of s p e .1));
         }
 
@@ -64,10 +65,10 @@ module _ (s : System) (f : Sound s) (before : s .tick < 1000000) where
       where
         go : (b : Bool) → sending s p ≡ b → (c : Bool) → eqb (delay s p q) 0 ≡ c → Spaced Old (s .period) 0 (later (next s) (underway s p q)) → Spaced New (s .period) 0 (later (next s) (underway s p q) ++ cond (b && not c) (message ∷ []) [])
         go true e false d r =
-            let (up, due, self) = sending-of s p e in
-            spaced-snoc message carried (λ m o. omega (arith, o .0 .before up)) (omega arith) (new e (eqb-false (delay s p q) 0 d)) r
-        go true e true d r = rw append-nil (respace carried r)
-        go false e c d r = rw append-nil (respace carried r)
+            let (up, due) = sending-of s p e in
+            spaced-snoc message stays (λ m o. omega (arith, o .0 .before up)) (omega arith) (new e (eqb-false (delay s p q) 0 d)) r
+        go true e true d r = rw append-nil (respace stays r)
+        go false e c d r = rw append-nil (respace stays r)
 
     -- sendings within the longest delay, at least 16 apart
     pub after-few : length (underwayAfter s p q) ≤ places
@@ -75,10 +76,10 @@ module _ (s : System) (f : Sound s) (before : s .tick < 1000000) where
         let low : Spaced New (s .period) (s .tick + 2 - longestDelay) (underwayAfter s p q) = raise (s .tick + 2 - longestDelay) (λ m o. omega (arith, o .due-after, o .due-by)) after-spaced in
         omega (arith, in-window (s .tick + 2 - longestDelay) (s .tick + 1) (f .period-low) (λ m o. o .sent-by) (omega arith) (omega arith) low)
 
-    pub after-linked : Linked (s .n) (s .period) (next s) (station (tick s) p) (getD (tick s .links) (place p q) noLink)
+    pub after-linked : Linked (s .clock) (s .n) (s .period) (next s) (station (tick s) p) (getD (tick s .links) (place p q) noLink)
     after-linked =
         rw (tick-link s (f .n-high) p q hp hq ne)
-        (holding-linked (s .n) (s .period) (next s) (station (tick s) p) (underwayAfter s p q) after-few after-spaced)
+        (holding-linked (s .clock) (s .n) (s .period) (next s) (station (tick s) p) (underwayAfter s p q) after-few after-spaced)
 
   -- a station sends at most seven messages in a tick
   after-sent : (p : ℕ) → In (s .n) p → sentBy (tick s) p ≤ 7 * next s

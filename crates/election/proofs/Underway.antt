@@ -11,7 +11,7 @@ use Rattle.lists.specs.Every.{All}
 use Rattle.lists.proofs.Bools.{both, cond-elim}
 use Rattle.lists.proofs.Every.{all-map}
 use Rattle.election.specs.System.{station, delay, underway}
-use Rattle.election.specs.Tick.{next, settled, sending, later, sent}
+use Rattle.election.specs.Tick.{next, announced, settled, sending, later, sent}
 use Rattle.election.specs.declared.Message.{Message}
 use Rattle.election.specs.declared.System.{System}
 use Rattle.election.proofs.Links.{Posted}
@@ -22,7 +22,7 @@ use Rattle.election.proofs.Spaced.{spaced-all}
 -- what is under way is due after the tick
 pub underway-due : (s : System) → Sound s → (q p : ℕ) → In (s .n) q → In (s .n) p → q ≢ p → All (λ (m : Message). s .tick < m .due) (underway s q p)
 underway-due s h q p iq ip ne =
-    all-map (Posted (s .n) (s .period) (s .tick) (station s q)) _ (λ m f. f .due-after) (underway s q p) (spaced-all (underway-spaced s h q p iq ip ne))
+    all-map (Posted (s .clock) (s .n) (s .period) (s .tick) (station s q)) _ (λ m f. f .due-after) (underway s q p) (spaced-all (underway-spaced s h q p iq ip ne))
 
 -- facts about what is due now, sender by sender
 pub inbox-all : (s : System) → Sound s → (P : ℕ → Message → Type 0) (p : ℕ) → In (s .n) p
@@ -43,7 +43,7 @@ later-all P Q now (m ∷ ms) f h =
 
 -- what is sent, if anything is
 pub sent-all : (P : Message → Type 0) (s : System) (p q : ℕ)
-    → (sending s p ≡ true → delay s p q ≢ 0 → P (record { sent = next s; due = next s + delay s p q; counts = settled s p .recovered })) → All P (sent s p q)
+    → (sending s p ≡ true → delay s p q ≢ 0 → P (announced (next s) (next s + delay s p q) (settled s p))) → All P (sent s p q)
 unfolding sent
 sent-all P s p q f =
     cond-elim (All P) (sending s p && not (eqb (delay s p q) 0))

@@ -1,23 +1,26 @@
 -- A verdict is given exactly where its words hold, and in a sound system the leader of an agreed dark is down.
 use mathlib.Core.Path.{_≡_, refl, sym, ap, subst, _∙_}
+use mathlib.Core.Logic._⊎_.{inl, inr}
 use mathlib.Core.List.{List}
-use mathlib.Core.Bool.{Bool, true, false, not, true≢false}
+use mathlib.Core.Bool.{Bool, true, false, not, _&&_, true≢false}
 use Prim.Native.Nat.{ℕ, zero, suc, _+_, _-_, _<_, _≤_}
 use native.Mathlib.Decide.{decLt}
 use native.Mathlib.Omega.{arith}
+use lib.Dec.{ltb}
 use lib.ListN.{getD}
-use borrow.Author.Tests.{not-true, not-false, eqb-true, eqb-false}
+use borrow.Author.Tests.{not-true, not-false, eqb-true, eqb-false, ltb-true, ltb-false, lt-ltb}
 use Rattle.lists.specs.Fold.{each}
 use Rattle.lists.proofs.Bools.{both, true-unless, false-unless}
 use Rattle.lists.proofs.Test.{all-at, all-fails}
 use Rattle.fit.specs.Fit.{within}
-use Rattle.fit.proofs.Tests.{within-of, of-within, Alive, fit-of}
+use Rattle.fit.proofs.Tests.{within-of, of-within}
 use Rattle.station.specs.declared.Station.{Station}
 use Rattle.election.specs.Listing.{dark, trusts, allTrust, leaderAfter, aLeader, upAmong, verdict}
 use Rattle.election.specs.System.{noStation, stationOf, station}
-use Rattle.election.specs.Verdicts.{Up, trusted, NoneUp, SomeUp, AllTrust, Words, VerdictExact, AgreedDarkExact}
+use Rattle.election.specs.Verdicts.{Up, trusted, NoneUp, SomeUp, AllTrust, Disagree, Words, VerdictExact, AgreedDarkExact}
 use Rattle.election.specs.declared.Verdict.{Verdict}
 use Rattle.election.specs.declared.Verdict.the-variants.{Dark, Agreed, AgreedDark, Split}
+use Rattle.election.proofs.Heads.{fits-leader}
 use Rattle.election.proofs.Places.{seat-at}
 use Rattle.election.proofs.Soundness.{sound-of}
 
@@ -76,19 +79,31 @@ module _ (n : ℕ) (stations : List Station) where
   unfolding upAmong
   leader-not-up l e (low, high, u) = true≢false (sym (rw (of-within 1 l n low high) u) ∙ e)
 
+  -- all up stations trust l, and l is a station's number
+  agreeing : (l : ℕ) → (ltb 0 l && allTrust n stations l) ≡ true → (1 ≤ l) × AllTrust n stations l
+  agreeing l e = let (a, t) = both (ltb 0 l) (allTrust n stations l) e in (ltb-true 0 l a, all-trust l t)
+
+  all-agree : (l : ℕ) → 1 ≤ l → AllTrust n stations l → (ltb 0 l && allTrust n stations l) ≡ true
+  all-agree l h t = rw (lt-ltb 0 l h, true-unless (allTrust n stations l) (λ e. let (p, u, ne) = another l e in ne (t p u)))
+
+  -- where they do not trust the leader that is looked at, or it is none, they do not agree
+  disagreeing : SomeUp n stations → (ltb 0 (aLeader n stations) && allTrust n stations (aLeader n stations)) ≡ false → Disagree n stations
+  disagreeing x e = go (ltb 0 (aLeader n stations)) refl (a-leader n stations x)
+    where
+      go : (b : Bool) → ltb 0 (aLeader n stations) ≡ b → Looked n stations (aLeader n stations) → Disagree n stations
+      go true l (p, u, h) = let (q, v, ne) = another (aLeader n stations) (rw l at e) in inl (p, q, u, v, λ same. ne (sym same ∙ h))
+      go false l (p, u, h) = let none : aLeader n stations ≡ 0 = omega (arith, ltb-false 0 (aLeader n stations) l) in inr (p, u, h ∙ none)
+
   -- the words of the one that is given hold
   given-words : Words n stations (verdict n stations)
   unfolding verdict
-  given-words = go (dark n stations) refl (allTrust n stations (aLeader n stations)) refl (upAmong n stations (aLeader n stations)) refl
+  given-words = go (dark n stations) refl (ltb 0 (aLeader n stations) && allTrust n stations (aLeader n stations)) refl (upAmong n stations (aLeader n stations)) refl
     where
-      go : (d : Bool) → dark n stations ≡ d → (a : Bool) → allTrust n stations (aLeader n stations) ≡ a → (u : Bool) → upAmong n stations (aLeader n stations) ≡ u → Words n stations (verdict n stations)
+      go : (d : Bool) → dark n stations ≡ d → (a : Bool) → (ltb 0 (aLeader n stations) && allTrust n stations (aLeader n stations)) ≡ a → (u : Bool) → upAmong n stations (aLeader n stations) ≡ u → Words n stations (verdict n stations)
       go true e a f u g = rw e (none-up e)
-      go false e true f true g = rw (e, f, g) (all-trust (aLeader n stations) f, leader-up (aLeader n stations) g)
-      go false e true f false g = rw (e, f, g) (some-up e, all-trust (aLeader n stations) f, leader-not-up (aLeader n stations) g)
-      go false e false f u g =
-          let (p, v, h) = a-leader n stations (some-up e) in
-          let (q, w, ne) = another (aLeader n stations) f in
-          rw (e, f) (p, q, v, w, λ same. ne (sym same ∙ h))
+      go false e true f true g = rw (e, f, g) (agreeing (aLeader n stations) f .1, leader-up (aLeader n stations) g)
+      go false e true f false g = let (low, t) = agreeing (aLeader n stations) f in rw (e, f, g) (some-up e, low, t, leader-not-up (aLeader n stations) g)
+      go false e false f u g = rw (e, f) (disagreeing (some-up e) f)
 
   not-dark : SomeUp n stations → dark n stations ≡ false
   not-dark (p, u) = false-unless (dark n stations) (λ e. none-up e p u)
@@ -96,20 +111,26 @@ module _ (n : ℕ) (stations : List Station) where
   some-leader : (l : ℕ) → SomeUp n stations → AllTrust n stations l → aLeader n stations ≡ l
   some-leader l x t = let (p, u, e) = a-leader n stations x in sym e ∙ t p u
 
-  all-agree : (l : ℕ) → AllTrust n stations l → allTrust n stations l ≡ true
-  all-agree l t = true-unless (allTrust n stations l) (λ e. let (p, u, ne) = another l e in ne (t p u))
+  -- stations that do not agree are some, and trust no leader all
+  pub disagree-some : Disagree n stations → SomeUp n stations
+  disagree-some (inl (p, q, u, v, ne)) = (p, u)
+  disagree-some (inr (p, u, e)) = (p, u)
+
+  pub no-agreement : (l : ℕ) → 1 ≤ l → AllTrust n stations l → Disagree n stations → ⊥
+  no-agreement l h t (inl (p, q, u, v, ne)) = ne (t p u ∙ sym (t q v))
+  no-agreement l h t (inr (p, u, e)) = omega (arith, h, sym (t p u) ∙ e)
 
   -- and where the words of a verdict hold it is given
   words-given : (v : Verdict) → Words n stations v → verdict n stations ≡ v
   unfolding verdict
   words-given Dark none = rw (true-unless (dark n stations) (λ e. let (p, u) = some-up e in none p u))
   words-given (Agreed l) (t, u) =
-      rw (not-dark (l, u), some-leader l (l, u) t, all-agree l t, true-unless (upAmong n stations l) (λ e. leader-not-up l e u))
-  words-given (AgreedDark l) (x, t, not-up) =
-      rw (not-dark x, some-leader l x t, all-agree l t, false-unless (upAmong n stations l) (λ e. not-up (leader-up l e)))
-  words-given Split (p, q, u, v, ne) =
+      rw (not-dark (l, u), some-leader l (l, u) t, all-agree l (u .0) t, true-unless (upAmong n stations l) (λ e. leader-not-up l e u))
+  words-given (AgreedDark l) (x, low, t, not-up) =
+      rw (not-dark x, some-leader l x t, all-agree l low t, false-unless (upAmong n stations l) (λ e. not-up (leader-up l e)))
+  words-given Split d =
       let l : ℕ = aLeader n stations in
-      rw (not-dark (p, u), false-unless (allTrust n stations l) (λ e. ne (all-trust l e p u ∙ sym (all-trust l e q v))))
+      rw (not-dark (disagree-some d), false-unless (ltb 0 l && allTrust n stations l) (λ e. let (low, t) = agreeing l e in no-agreement l low t d))
 
 pub verdict-exact : VerdictExact
 verdict-exact n stations v = (λ e. subst (Words n stations) e (given-words n stations), words-given n stations v)
@@ -117,14 +138,12 @@ verdict-exact n stations v = (λ e. subst (Words n stations) e (given-words n st
 pub agreed-dark-exact : AgreedDarkExact
 agreed-dark-exact s l e r = (
   λ given.
-      let (x, t, not-up) = verdict-exact (s .n) (s .stations) (AgreedDark l) .0 given in
+      let (x, from-one, t, not-up) = verdict-exact (s .n) (s .stations) (AgreedDark l) .0 given in
       let (p, (low, high, u)) = x in
-      let alive : Alive p (s .n) (station s p) = fit-of p (s .n) (s .period) (s .tick) (station s p) (sound-of s e r .fits p (record { low = low; high = high })) u .0 .living in
-      let same : trusted (s .stations) p ≡ l = t p (low, high, u) in
-      let from-one : 1 ≤ l = subst (λ z. 1 ≤ z) same (alive .leader-low) in
-      let to-n : l ≤ s .n = subst (λ z. z ≤ s .n) same (alive .leader-high) in
+      let to-n : trusted (s .stations) p ≤ s .n = fits-leader p (s .n) (s .period) (s .tick) (station s p) (s .clock) (sound-of s e r .fits p (record { low = low; high = high })) u in
+      let to-n : l ≤ s .n = subst (λ z. z ≤ s .n) (t p (low, high, u)) to-n in
       (x, t, (from-one, to-n, false-unless (station s l .up) (λ up. not-up (from-one, to-n, up)))),
   λ words.
       let (x, t, (low, high, down)) = words in
-      verdict-exact (s .n) (s .stations) (AgreedDark l) .1 (x, t, λ up. true≢false (sym (up .2) ∙ down)),
+      verdict-exact (s .n) (s .stations) (AgreedDark l) .1 (x, low, t, λ up. true≢false (sym (up .2) ∙ down)),
 )

@@ -53,10 +53,10 @@ AcceptedWhole = (bytes : List ℕ) → schedule bytes .refusal ≡ 0 → schedul
 abbrev pub RefusedInside : Type 0
 RefusedInside = (bytes : List ℕ) → schedule bytes .refusal ≢ 0 → schedule bytes .refusal ≢ 21 → schedule bytes .offset < length bytes
 
--- after an accepted schedule a head's count is the number of its accepted starts: a worn-out head never looks young
+-- after an accepted schedule of a flash table a head's count is the number of its accepted starts: a worn-out head never looks young
 abbrev pub CountsStarts : Type 0
 CountsStarts =
-    (bytes : List ℕ) → schedule bytes .refusal ≡ 0 → (p : ℕ) → 1 ≤ p → p ≤ schedule bytes .system .n
+    (bytes : List ℕ) → schedule bytes .refusal ≡ 0 → schedule bytes .system .clock ≡ false → (p : ℕ) → 1 ≤ p → p ≤ schedule bytes .system .n
     → station (schedule bytes .system) p .incarnation ≡ starts p (commands bytes)
 
 -- and it is up exactly if the latest accepted of its starts and crashes is a start
@@ -70,6 +70,25 @@ abbrev pub RankIsLatest : Type 0
 RankIsLatest =
     (bytes : List ℕ) → schedule bytes .refusal ≡ 0 → (p : ℕ) → 1 ≤ p → p ≤ schedule bytes .system .n
     → entry (schedule bytes .system .ranks) p ≡ rankOf 0 p (commands bytes)
+
+-- a table has one kind of head: no command changes it once it is set up, on every system, sound or not
+abbrev pub KindStays : Type 0
+KindStays = (s : System) (bytes : List ℕ) → s .ready ≡ true → command s bytes .system .clock ≡ s .clock
+
+-- counts and ranks of clock heads are zero, and each keeps itself
+abbrev pub ClockZeros : Type 0
+ClockZeros =
+    (s : System) → sound s ≡ true → s .ready ≡ true → s .clock ≡ true → (p : ℕ) → 1 ≤ p → p ≤ s .n
+    → (station s p .incarnation ≡ 0) × (station s p .stable ≡ p) × (entry (s .ranks) p ≡ 0)
+
+-- 10 is not given on them, to a command or in a schedule, and no rank is accepted
+abbrev pub ClockNeverWorn : Type 0
+ClockNeverWorn =
+    ((s : System) (bytes : List ℕ) → s .clock ≡ true → command s bytes .refusal ≢ 10)
+    × ((bytes : List ℕ) → schedule bytes .system .clock ≡ true → schedule bytes .refusal ≢ 10)
+
+abbrev pub ClockNoRank : Type 0
+ClockNoRank = (s : System) → s .clock ≡ true → (p r : ℕ) → firstFailed (tests s (Rank p r)) ≢ 0
 
 -- no rank is accepted while a head is up
 abbrev pub RankRefusedWhileUp : Type 0

@@ -1,6 +1,6 @@
 -- Commands of one byte, and what is turned down.
 use mathlib.Core.List.{List, [], _∷_}
-use mathlib.Core.Bool.{Bool, cond, not, _&&_}
+use mathlib.Core.Bool.{Bool, true, false, cond, not, _&&_}
 use Prim.Native.Nat.{ℕ, _+_, _*_, _<_}
 use lib.ListN.{length, getD}
 use lib.Dec.{leb, ltb, eqb}
@@ -9,8 +9,9 @@ use Rattle.lists.specs.First.{firstFailed}
 use Rattle.lists.specs.Test.{allTo}
 use Rattle.fit.specs.Fit.{within, longestDelay}
 use Rattle.station.specs.Limits.{lastTick, mostStarts, mostRank}
-use Rattle.station.specs.Rules.{started, crashed}
+use Rattle.station.specs.Rules.{crashed}
 use Rattle.station.specs.declared.Station.{Station}
+use Rattle.election.specs.Heads.{starting}
 use Rattle.election.specs.Sound.{sound}
 use Rattle.election.specs.System.{noStation, station, initial, withStation, withDelay, withoutMessages, withRank}
 use Rattle.election.specs.Tick.{ticks}
@@ -18,7 +19,7 @@ use Rattle.election.specs.declared.Answer.{Answer}
 use Rattle.election.specs.declared.Answer.the-variants.{Done, Refused}
 use Rattle.election.specs.declared.Commanded.{Commanded}
 use Rattle.election.specs.declared.Refusal.{Refusal}
-use Rattle.election.specs.declared.Refusal.the-variants.{UnknownCommand, MissingOperand, NotSetUp, SetUpTwice, StationsRange, PeriodRange, StationRange, StationUp, StationDown, WornOut, SameStation, NoTicks, PastLastTick, Unsound, BufferShort, ScheduleLong, RankRange, AlreadyStarted}
+use Rattle.election.specs.declared.Refusal.the-variants.{UnknownCommand, MissingOperand, NotSetUp, SetUpTwice, StationsRange, PeriodRange, StationRange, StationUp, StationDown, WornOut, SameStation, NoTicks, PastLastTick, Unsound, BufferShort, ScheduleLong, RankRange, AlreadyStarted, ClockHeads}
 use Rattle.election.specs.declared.System.{System}
 
 -- numbers that are bytes
@@ -27,7 +28,8 @@ Bytes xs = All (λ b. b < 256) xs
 
 -- a command with its operands
 pub data Command : Type 0 where
-  SetUp : ℕ → ℕ → Command
+  -- clock heads or not, stations, period
+  SetUp : Bool → ℕ → ℕ → Command
   Start Crash : ℕ → Command
   Link : ℕ → ℕ → ℕ → Command
   Run : ℕ → Command
@@ -35,29 +37,30 @@ pub data Command : Type 0 where
   Report : Command
   Rank : ℕ → ℕ → Command
 
--- 01 set up, 02 start, 03 crash, 04 link, 05 run (low byte first), 06 lose, 07 report, 08 rank
+-- 01 set up, 02 start, 03 crash, 04 link, 05 run (low byte first), 06 lose, 07 report, 08 rank, 09 set up clock heads
 unfoldable pub decode : List ℕ → Command
 decode bytes =
     let b : ℕ = getD bytes 0 0 in
     let x : ℕ = getD bytes 1 0 in
     let y : ℕ = getD bytes 2 0 in
     let z : ℕ = getD bytes 3 0 in
-    cond (eqb b 1) (SetUp x y)
+    cond (eqb b 1) (SetUp false x y)
     (cond (eqb b 2) (Start x)
     (cond (eqb b 3) (Crash x)
     (cond (eqb b 4) (Link x y z)
     (cond (eqb b 5) (Run (x + 256 * y))
     (cond (eqb b 6) (Lose x y)
     (cond (eqb b 8) (Rank x y)
-    Report))))))
+    (cond (eqb b 9) (SetUp true x y)
+    Report)))))))
 
 -- the last of the command bytes
 abbrev pub lastCommand : ℕ
-lastCommand = 8
+lastCommand = 9
 
 -- the bytes of its operands
 abbrev pub operands : Command → ℕ
-operands (SetUp n period) = 2
+operands (SetUp clock n period) = 2
 operands (Start p) = 1
 operands (Crash p) = 1
 operands (Link p q d) = 3
@@ -72,7 +75,7 @@ noneStarted stations = allTo 8 (λ k. eqb (getD stations k noStation .incarnatio
 
 -- what turns a command down, in order
 abbrev pub tests : System → Command → List (Bool × ℕ)
-tests s (SetUp n period) = (not (s .ready), 4) ∷ (within 2 n 8, 5) ∷ (within 16 period 255, 6) ∷ []
+tests s (SetUp clock n period) = (not (s .ready), 4) ∷ (within 2 n 8, 5) ∷ (within 16 period 255, 6) ∷ []
 tests s (Start p) =
     (s .ready, 3) ∷ (within 1 p (s .n), 7) ∷ (not (station s p .up), 8) ∷ (ltb (station s p .incarnation) mostStarts, 10) ∷ []
 tests s (Crash p) = (s .ready, 3) ∷ (within 1 p (s .n), 7) ∷ (station s p .up, 9) ∷ []
@@ -82,7 +85,8 @@ tests s (Link p q d) =
 tests s (Run t) = (s .ready, 3) ∷ (ltb 0 t, 13) ∷ (leb (s .tick + t) lastTick, 14) ∷ []
 tests s (Lose p q) = (s .ready, 3) ∷ (within 1 p (s .n) && within 1 q (s .n), 7) ∷ (not (eqb p q), 11) ∷ []
 tests s Report = (s .ready, 3) ∷ []
-tests s (Rank p r) = (s .ready, 3) ∷ (within 1 p (s .n), 7) ∷ (leb r mostRank, 22) ∷ (noneStarted (s .stations), 23) ∷ []
+tests s (Rank p r) =
+    (s .ready, 3) ∷ (not (s .clock), 25) ∷ (within 1 p (s .n), 7) ∷ (leb r mostRank, 22) ∷ (noneStarted (s .stations), 23) ∷ []
 
 -- the refusal that the rules give to the first command of the bytes, 0 for none
 abbrev pub ruling : System → List ℕ → ℕ
@@ -99,8 +103,8 @@ refusal s bytes = cond (sound s) (ruling s bytes) 15
 
 -- what an accepted command does
 unfoldable pub perform : Command → System → System
-perform (SetUp n period) s = initial n period
-perform (Start p) s = withStation p (started p (s .n) (s .period) (s .tick) (station s p)) s
+perform (SetUp clock n period) s = initial clock n period
+perform (Start p) s = withStation p (starting s p (station s p)) s
 perform (Crash p) s = withStation p (crashed (station s p)) s
 perform (Link p q d) s = withDelay p q d s
 perform (Run t) s = ticks t s
@@ -146,6 +150,7 @@ numberOf BufferShort = 16
 numberOf ScheduleLong = 21
 numberOf RankRange = 22
 numberOf AlreadyStarted = 23
+numberOf ClockHeads = 25
 
 -- number and length of an answer
 abbrev pub refusalOf : Answer → ℕ

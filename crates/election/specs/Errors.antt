@@ -6,7 +6,7 @@ use Prim.Native.Nat.{ℕ}
 use lib.ListN.{replicate}
 use Rattle.election.specs.Listing.{output}
 use Rattle.text.specs.Numbers.{decimal}
-use Rattle.election.specs.Rows.{Row, Printed, InLast, Hold, leaders, trusted, timeouts, kept, known, sentCount, delayOf, carried, setUp, start, crash, link, run, lose, report, started, at20, startedSlow}
+use Rattle.election.specs.Rows.{Row, Printed, InLast, Hold, leaders, trusted, timeouts, kept, known, sentCount, delayOf, onTheWay, setUp, setUpClocks, start, crash, link, run, lose, report, started, at20, startedSlow}
 use Rattle.election.specs.Schedule.{schedule}
 use Rattle.text.specs.Quoted.{text}
 use Rattle.election.specs.declared.System.{System}
@@ -121,14 +121,14 @@ errors =
     -- a message carries the vector after (a): with the one before the tick station 3 would not know of 2
     ∷ record { bytes = setUp 3 16 ++ link 2 3 0 ++ link 2 1 16 ++ start 1 ++ start 2 ++ start 3 ++ run 34; view = InLast (known 3); seen = 0 ∷ 1 ∷ 1 ∷ 1 ∷ 1 ∷ [] }
     -- lose takes every message, and one way alone: two are under way each way before
-    ∷ record { bytes = setUp 2 16 ++ link 1 2 64 ++ link 2 1 64 ++ start 1 ++ start 2 ++ run 34; view = InLast (carried 1 2); seen = 0 ∷ 2 ∷ 2 ∷ [] }
-    ∷ record { bytes = setUp 2 16 ++ link 1 2 64 ++ link 2 1 64 ++ start 1 ++ start 2 ++ run 34 ++ lose 1 2; view = InLast (carried 1 2); seen = 0 ∷ 0 ∷ 2 ∷ [] }
+    ∷ record { bytes = setUp 2 16 ++ link 1 2 64 ++ link 2 1 64 ++ start 1 ++ start 2 ++ run 34; view = InLast (onTheWay 1 2); seen = 0 ∷ 2 ∷ 2 ∷ [] }
+    ∷ record { bytes = setUp 2 16 ++ link 1 2 64 ++ link 2 1 64 ++ start 1 ++ start 2 ++ run 34 ++ lose 1 2; view = InLast (onTheWay 1 2); seen = 0 ∷ 0 ∷ 2 ∷ [] }
     -- a delay outlives a crash of its sender
     ∷ record { bytes = started ++ link 1 2 3 ++ crash 1 ++ start 1; view = InLast (delayOf 1 2); seen = 0 ∷ 3 ∷ [] }
     -- delays 65 and 255 are taken
     ∷ record { bytes = started ++ link 1 2 65 ++ link 2 1 255; view = InLast (λ s. delayOf 1 2 s ++ delayOf 2 1 s); seen = 0 ∷ 65 ∷ 255 ∷ [] }
     -- a link carries sixteen, to the tick before the first is due: sent at 17, 33, .. 257, due from 272 on
-    ∷ record { bytes = startedSlow ++ run 255 ++ run 16; view = InLast (carried 1 2); seen = 0 ∷ 16 ∷ 16 ∷ [] }
+    ∷ record { bytes = startedSlow ++ run 255 ++ run 16; view = InLast (onTheWay 1 2); seen = 0 ∷ 16 ∷ 16 ∷ [] }
     ∷ []
 
 -- what is printed: every report, every word, every digit
@@ -152,9 +152,9 @@ DarkTwice = output (setUp 2 16 ++ report ++ report) ≡ darkPrinted ++ darkPrint
 abbrev pub Decimals : Type 0
 Decimals = map decimal (0 ∷ 9 ∷ 10 ∷ 4095 ∷ 7000000 ∷ 12345678901234567890 ∷ []) ≡ map text ("0" ∷ "9" ∷ "10" ∷ "4095" ∷ "7000000" ∷ "12345678901234567890" ∷ [])
 
--- the whole of a system in which nothing has happened: whether it is set up, n, η, the kept leaders, the delays
-abbrev pub untouched : Bool → ℕ → ℕ → List ℕ → List ℕ → System
-untouched ready n period leaders delays =
+-- the whole of a system in which nothing has happened: whether it is set up, and with clock heads, n, η, the kept leaders, the delays
+abbrev pub untouched : Bool → Bool → ℕ → ℕ → List ℕ → List ℕ → System
+untouched ready clock n period leaders delays =
     record {
       ready = ready;
       n = n;
@@ -173,27 +173,35 @@ untouched ready n period leaders delays =
             recovering = false;
             recovered = replicate 8 0;
             timeouts = replicate 8 0;
+            stamp = 0;
+            lowest = 0;
+            timeout = 0;
           })
           leaders;
       sent = replicate 8 0;
       delays = delays;
-      links = replicate 64 (record { used = 0; messages = replicate 16 (record { sent = 0; due = 0; counts = replicate 8 0 }) });
+      links = replicate 64 (record { used = 0; messages = replicate 16 (record { sent = 0; due = 0; counts = replicate 8 0; stamp = 0 }) });
       ranks = replicate 8 0;
+      clock = clock;
     }
 
 -- the empty schedule leaves the fresh system, all zero
 abbrev pub FreshWhole : Type 0
-FreshWhole = schedule [] .system ≡ untouched false 0 0 (replicate 8 0) (replicate 64 0)
+FreshWhole = schedule [] .system ≡ untouched false false 0 0 (replicate 8 0) (replicate 64 0)
 
 -- set up with two stations and η 16: each keeps itself, the links 1 to 2 and 2 to 1 have delay 1, and there is no other link
 abbrev pub SetUpWhole : Type 0
-SetUpWhole = schedule (setUp 2 16) .system ≡ untouched true 2 16 (1 ∷ 2 ∷ replicate 6 0) (0 ∷ 1 ∷ replicate 6 0 ++ (1 ∷ replicate 55 0))
+SetUpWhole = schedule (setUp 2 16) .system ≡ untouched true false 2 16 (1 ∷ 2 ∷ replicate 6 0) (0 ∷ 1 ∷ replicate 6 0 ++ (1 ∷ replicate 55 0))
+
+-- and of clock heads the same, with its mark
+abbrev pub ClocksWhole : Type 0
+ClocksWhole = schedule (setUpClocks 2 16) .system ≡ untouched true true 2 16 (1 ∷ 2 ∷ replicate 6 0) (0 ∷ 1 ∷ replicate 6 0 ++ (1 ∷ replicate 55 0))
 
 -- with eight stations and η 255 all links have delay 1, but from a station to itself: the first, and every ninth place from there
 abbrev pub EightWhole : Type 0
 EightWhole =
     schedule (setUp 8 255) .system
-    ≡ untouched true 8 255 (1 ∷ 2 ∷ 3 ∷ 4 ∷ 5 ∷ 6 ∷ 7 ∷ 8 ∷ []) (0 ∷ flat (replicate 7 (replicate 8 1 ++ (0 ∷ []))))
+    ≡ untouched true false 8 255 (1 ∷ 2 ∷ 3 ∷ 4 ∷ 5 ∷ 6 ∷ 7 ∷ 8 ∷ []) (0 ∷ flat (replicate 7 (replicate 8 1 ++ (0 ∷ []))))
   where
     flat : List (List ℕ) → List ℕ
     flat [] = []
@@ -201,4 +209,4 @@ EightWhole =
 
 -- the tables
 abbrev pub NoneOfTheErrors : Type 0
-NoneOfTheErrors = Hold errors × Hold prints × DarkTwice × Decimals × FreshWhole × SetUpWhole × EightWhole
+NoneOfTheErrors = Hold errors × Hold prints × DarkTwice × Decimals × FreshWhole × SetUpWhole × ClocksWhole × EightWhole

@@ -1,4 +1,4 @@
--- Paper 4 of document 02, computed: what the search finds in given lists of stations, and where it ends.
+-- Papers 4 and 6 of document 02, computed: what the search finds in given lists of stations, and where it ends.
 use mathlib.Core.Path.{_≡_}
 use mathlib.Core.List.{List, [], _∷_, _++_}
 use Prim.Native.Nat.{ℕ}
@@ -10,7 +10,7 @@ use Rattle.election.specs.declared.Searched.{Searched}
 use Rattle.election.specs.declared.Verdict.{Verdict}
 use Rattle.election.specs.declared.Verdict.the-variants.{Dark, Agreed, AgreedDark, Split}
 
--- a station that is up and trusts l; one that is down; one that is down, with a leader left over
+-- a station that is up and trusts l, or nobody if l is 0; one that is down; one that is down, with a leader left over
 abbrev pub up : ℕ → Station
 up l = startedWith l 16 0 [] [] (downWith 0 l)
 
@@ -41,6 +41,14 @@ searches =
     ∷ record { n = 3; stations = up 1 ∷ down ∷ up 2 ∷ []; answer = at Split 3 }
     ∷ record { n = 4; stations = up 1 ∷ down ∷ up 2 ∷ up 1 ∷ []; answer = at Split 3 }
     ∷ record { n = 4; stations = up 1 ∷ downAfter 2 ∷ up 1 ∷ up 1 ∷ []; answer = at (Agreed 1) 4 }
+    -- split at an up station without a leader: the first, after down ones, after others that agree, with more of them, and the only one up
+    ∷ record { n = 3; stations = up 0 ∷ up 1 ∷ up 1 ∷ []; answer = at Split 1 }
+    ∷ record { n = 4; stations = down ∷ down ∷ up 0 ∷ up 1 ∷ []; answer = at Split 3 }
+    ∷ record { n = 4; stations = up 1 ∷ up 1 ∷ up 0 ∷ up 1 ∷ []; answer = at Split 3 }
+    ∷ record { n = 3; stations = up 0 ∷ up 0 ∷ up 0 ∷ []; answer = at Split 1 }
+    ∷ record { n = 3; stations = down ∷ down ∷ up 0 ∷ []; answer = at Split 3 }
+    -- one that is down has no leader either, and differs from nobody
+    ∷ record { n = 3; stations = up 1 ∷ down ∷ up 1 ∷ []; answer = at (Agreed 1) 3 }
     -- none up, agreed and agreed dark: at station n, wherever the leader stands
     ∷ record { n = 3; stations = down ∷ down ∷ down ∷ []; answer = at Dark 3 }
     ∷ record { n = 3; stations = up 1 ∷ up 1 ∷ up 1 ∷ []; answer = at (Agreed 1) 3 }
@@ -50,6 +58,7 @@ searches =
     ∷ record { n = 3; stations = up 3 ∷ up 3 ∷ down ∷ []; answer = at (AgreedDark 3) 3 }
     -- a station past n is not looked at, and one past the end of the list is down
     ∷ record { n = 2; stations = up 1 ∷ up 1 ∷ up 2 ∷ []; answer = at (Agreed 1) 2 }
+    ∷ record { n = 2; stations = up 1 ∷ up 1 ∷ up 0 ∷ []; answer = at (Agreed 1) 2 }
     ∷ record { n = 2; stations = up 3 ∷ up 3 ∷ up 3 ∷ []; answer = at (AgreedDark 3) 2 }
     ∷ record { n = 9; stations = replicate 8 (up 9); answer = at (AgreedDark 9) 9 }
     ∷ []

@@ -32,7 +32,7 @@ commands bytes = history (length bytes) fresh bytes
 -- a head's starts are its accepted starts so far
 unfoldable pub starts : ℕ → List Command → ℕ
 starts p [] = 0
-starts p (SetUp n period ∷ cs) = starts p cs
+starts p (SetUp clock n period ∷ cs) = starts p cs
 starts p (Start q ∷ cs) = cond (eqb q p) (suc (starts p cs)) (starts p cs)
 starts p (Crash q ∷ cs) = starts p cs
 starts p (Link a b d ∷ cs) = starts p cs
@@ -44,7 +44,7 @@ starts p (Rank q r ∷ cs) = starts p cs
 -- it is up if the latest accepted of its starts and crashes is a start; u is whether it was up before
 unfoldable pub isUp : Bool → ℕ → List Command → Bool
 isUp u p [] = u
-isUp u p (SetUp n period ∷ cs) = isUp u p cs
+isUp u p (SetUp clock n period ∷ cs) = isUp u p cs
 isUp u p (Start q ∷ cs) = isUp (cond (eqb q p) true u) p cs
 isUp u p (Crash q ∷ cs) = isUp (cond (eqb q p) false u) p cs
 isUp u p (Link a b d ∷ cs) = isUp u p cs
@@ -56,7 +56,7 @@ isUp u p (Rank q r ∷ cs) = isUp u p cs
 -- its rank is 0 from set up on, then the latest accepted one; r is the rank that it had before
 unfoldable pub rankOf : ℕ → ℕ → List Command → ℕ
 rankOf r p [] = r
-rankOf r p (SetUp n period ∷ cs) = rankOf 0 p cs
+rankOf r p (SetUp clock n period ∷ cs) = rankOf 0 p cs
 rankOf r p (Start q ∷ cs) = rankOf r p cs
 rankOf r p (Crash q ∷ cs) = rankOf r p cs
 rankOf r p (Link a b d ∷ cs) = rankOf r p cs

@@ -16,10 +16,11 @@ pub mod Onward
 -- The accepted commands of a schedule, and the claims
 pub mod History
 pub mod Claims
--- Tables that are computed: the rehearsals, the ranks, the findings of the search, the errors ruled out, and soundness breached clause by clause
+-- Tables that are computed: the rehearsals, the ranks, the clock heads, the findings of the search, the errors ruled out, and soundness breached clause by clause
 pub mod Rows
 pub mod Rehearsals
 pub mod Ranked
+pub mod Clocked
 pub mod Found
 pub mod Errors
 pub mod Breaches

@@ -1,4 +1,4 @@
--- The listing, and what the rehearsal program prints ("Frame and listing" of document 01, with Paper 2 of document 02), as bytes.
+-- The listing, and what the rehearsal program prints ("Frame and listing" of document 01, with Papers 2 and 6 of document 02), as bytes.
 use mathlib.Core.List.{List, [], _∷_, _++_}
 use mathlib.Core.Bool.{Bool, true, false, cond, not, _&&_}
 use Prim.Native.Nat.{ℕ, zero, suc, _+_}
@@ -21,7 +21,7 @@ use Rattle.election.specs.declared.System.{System}
 use Rattle.election.specs.declared.Verdict.{Verdict}
 use Rattle.election.specs.declared.Verdict.the-variants.{Dark, Agreed, AgreedDark, Split}
 
--- "tick ", " up", " down", " leader ", " inc ", " rec ", " sent ", " kept ", "-", "dark", "agreed ", "agreed dark ", "split", "end ", "refused ", " at "
+-- "tick ", " up", " down", " leader ", " inc ", " rec ", " stamp ", " sent ", " kept ", "-", "dark", "agreed ", "agreed dark ", "split", "end ", "refused ", " at "
 abbrev pub tickWord : List ℕ
 tickWord = 116 ∷ 105 ∷ 99 ∷ 107 ∷ 32 ∷ []
 
@@ -39,6 +39,9 @@ incWord = 32 ∷ 105 ∷ 110 ∷ 99 ∷ 32 ∷ []
 
 abbrev pub recWord : List ℕ
 recWord = 32 ∷ 114 ∷ 101 ∷ 99 ∷ 32 ∷ []
+
+abbrev pub stampWord : List ℕ
+stampWord = 32 ∷ 115 ∷ 116 ∷ 97 ∷ 109 ∷ 112 ∷ 32 ∷ []
 
 abbrev pub sentWord : List ℕ
 sentWord = 32 ∷ 115 ∷ 101 ∷ 110 ∷ 116 ∷ 32 ∷ []
@@ -74,27 +77,33 @@ atWord = 32 ∷ 97 ∷ 116 ∷ 32 ∷ []
 unfoldable pub status : ℕ → Bool → List ℕ
 status p up = decimal p ++ cond up upWord downWord
 
--- its trusted leader and its vector; a down one shows - for them
+-- its trusted leader, and its vector or its stamp; a down one shows - for them, and one that trusts nobody shows - for its leader
 unfoldable pub leaderOf : Bool → ℕ → List ℕ
-leaderOf up l = leaderWord ++ cond up (decimal l) noneWord
+leaderOf up l = leaderWord ++ cond (up && ltb 0 l) (decimal l) noneWord
 
 unfoldable pub vectorOf : ℕ → Bool → List ℕ → List ℕ
 vectorOf n up v = recWord ++ cond up (vector n v) noneWord
 
--- the line of a station: its number, up or down, trusted leader, kept count, vector, sent, kept leader
-unfoldable pub stationLine : ℕ → ℕ → Station → ℕ → List ℕ
-stationLine n p x sent =
-    status p (x .up)
-    ++ leaderOf (x .up) (x .leader)
-    ++ named incWord (x .incarnation)
-    ++ vectorOf n (x .up) (x .recovered)
-    ++ named sentWord sent
-    ++ named keptWord (x .stable)
-    ++ newline
+unfoldable pub stampOf : Bool → ℕ → List ℕ
+stampOf up z = stampWord ++ cond up (decimal z) noneWord
+
+-- what it knows: kept count and vector, or the stamp of a clock head, which shows - for its count
+unfoldable pub knownOf : Bool → ℕ → Station → List ℕ
+knownOf clock n x =
+    cond clock (incWord ++ noneWord ++ stampOf (x .up) (x .stamp)) (named incWord (x .incarnation) ++ vectorOf n (x .up) (x .recovered))
+
+-- its kept leader; a clock head shows -
+unfoldable pub keptOf : Bool → ℕ → List ℕ
+keptOf clock l = keptWord ++ cond clock noneWord (decimal l)
+
+-- the line of a station: its number, up or down, trusted leader, what it knows, sent, kept leader
+unfoldable pub stationLine : Bool → ℕ → ℕ → Station → ℕ → List ℕ
+stationLine clock n p x sent =
+    status p (x .up) ++ leaderOf (x .up) (x .leader) ++ knownOf clock n x ++ named sentWord sent ++ keptOf clock (x .stable) ++ newline
 
 -- the lines of the first n stations
-unfoldable pub stationLines : ℕ → List Station → List ℕ → List ℕ
-stationLines n stations sent = joinTo n (λ k. stationLine n (k + 1) (getD stations k noStation) (getD sent k 0))
+unfoldable pub stationLines : Bool → ℕ → List Station → List ℕ → List ℕ
+stationLines clock n stations sent = joinTo n (λ k. stationLine clock n (k + 1) (getD stations k noStation) (getD sent k 0))
 
 -- none of the first n stations is up
 unfoldable pub dark : ℕ → List Station → Bool
@@ -118,12 +127,12 @@ aLeader n stations = each n (λ k l. leaderAfter (getD stations k noStation) l) 
 unfoldable pub upAmong : ℕ → List Station → ℕ → Bool
 upAmong n stations l = within 1 l n && stationOf stations l .up
 
--- dark if none is up; if all up stations trust the same L, agreed L if L is up and agreed dark L if not; else split
+-- dark if none is up; if all up stations trust the same L, agreed L if L is up and agreed dark L if not; else split, as it is where one has no leader
 unfoldable pub verdict : ℕ → List Station → Verdict
 verdict n stations =
     let l : ℕ = aLeader n stations in
     cond (dark n stations) Dark
-    (cond (allTrust n stations l) (cond (upAmong n stations l) (Agreed l) (AgreedDark l)) Split)
+    (cond (ltb 0 l && allTrust n stations l) (cond (upAmong n stations l) (Agreed l) (AgreedDark l)) Split)
 
 unfoldable pub verdictLine : Verdict → List ℕ
 verdictLine Dark = darkWord ++ newline
@@ -132,11 +141,11 @@ verdictLine (AgreedDark l) = agreedDarkWord ++ decimal l ++ newline
 verdictLine Split = splitWord ++ newline
 
 -- the tick, a line for each station, and the verdict
-unfoldable pub listingOf : ℕ → ℕ → List Station → List ℕ → List ℕ
-listingOf n tick stations sent = tickWord ++ decimal tick ++ newline ++ stationLines n stations sent ++ verdictLine (verdict n stations)
+unfoldable pub listingOf : Bool → ℕ → ℕ → List Station → List ℕ → List ℕ
+listingOf clock n tick stations sent = tickWord ++ decimal tick ++ newline ++ stationLines clock n stations sent ++ verdictLine (verdict n stations)
 
 abbrev pub listing : System → List ℕ
-listing s = listingOf (s .n) (s .tick) (s .stations) (s .sent)
+listing s = listingOf (s .clock) (s .n) (s .tick) (s .stations) (s .sent)
 
 -- room that is enough for every listing of at most eight stations
 abbrev pub longestListing : ℕ

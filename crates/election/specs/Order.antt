@@ -12,7 +12,7 @@ use Rattle.station.specs.declared.Station.{Station}
 use Rattle.election.specs.Heads.{hearing, expiring, slotting, announces}
 use Rattle.election.specs.Sound.{sound}
 use Rattle.election.specs.System.{noLink, stationOf, place, from, to, delay, messages, holding, underway, isLink}
-use Rattle.election.specs.Tick.{next, tick}
+use Rattle.election.specs.Tick.{next, announced, tick}
 use Rattle.election.specs.declared.Link.{Link}
 use Rattle.election.specs.declared.Message.{Message}
 use Rattle.election.specs.declared.System.{System}
@@ -88,18 +88,18 @@ timerEnds s p d =
       mail = d .mail;
     }
 
--- (c) x, station p as it is, sends LEADER with its vector to q, behind what is under way: the delay is read at sending, and the message is
+-- (c) x, station p as it is, sends LEADER with its vector or its stamp to q, behind what is under way: the delay is read at sending, and the message is
 -- due that many ticks later; at delay 0 it vanishes
 unfoldable pub sentTo : System → ℕ → Station → ℕ → Mail → Mail
 sentTo s p x q mail =
-    let m : Message = record { sent = next s; due = next s + delay s p q; counts = x .recovered } in
+    let m : Message = announced (next s) (next s + delay s p q) x in
     set mail (place p q) (mailOf mail p q ++ cond (eqb (delay s p q) 0) [] (m ∷ []))
 
 -- (c) to all others, ascending
 unfoldable pub sentToAll : System → ℕ → Station → Mail → Mail
 sentToAll s p x mail = each (s .n) (λ k ms. cond (not (eqb p (k + 1))) (sentTo s p x (k + 1) ms) ms) mail
 
--- (c) station p, as it is, sends if it is up, its send chance is due now and it trusts itself
+-- (c) station p, as it is, sends if it is up, its send chance is due now and LEADER is sent at it: it trusts itself, or does so from this chance on
 abbrev pub sendsNow : System → ℕ → Station → Bool
 sendsNow s p x = x .up && eqb (x .slot) (next s) && announces s p x
 
@@ -109,7 +109,7 @@ unfoldable pub chance : System → ℕ → Desk → Desk
 chance s p d =
     let x : Station = stationOf (d .stations) p in
     record {
-      stations = cond (eqb (x .slot) (next s)) (set (d .stations) (p - 1) (slotting s (next s) x)) (d .stations);
+      stations = cond (eqb (x .slot) (next s)) (set (d .stations) (p - 1) (slotting s p (next s) x)) (d .stations);
       sent = cond (sendsNow s p x) (set (d .sent) (p - 1) (getD (d .sent) (p - 1) 0 + (s .n - 1))) (d .sent);
       mail = cond (sendsNow s p x) (sentToAll s p x (d .mail)) (d .mail);
     }

@@ -42,7 +42,7 @@ changes =
     -- a start, a run and a crash leave them
     ∷ record { bytes = threeRanked ++ start 2 ++ run 40 ++ crash 2; view = InLast ranks; seen = 0 ∷ 7 ∷ 3 ∷ replicate 6 0 }
     -- turned down: a missing operand is 2; not set up is 3; a station that is none is 7, before 22; a rank above 7 is 22, before 23; 23 after a start of
-    -- whichever station, also when it is down again; 1 for the byte after 08
+    -- whichever station, also when it is down again; 1 for the byte after 09
     ∷ record { bytes = firstRanked ++ (0x08 ∷ 0x01 ∷ []); view = InLast ranks; seen = 2 ∷ 5 ∷ replicate 7 0 }
     ∷ record { bytes = rank 0 9; view = InLast ranks; seen = 3 ∷ replicate 8 0 }
     ∷ record { bytes = firstRanked ++ rank 0 8; view = InLast ranks; seen = 7 ∷ 5 ∷ replicate 7 0 }
@@ -52,7 +52,7 @@ changes =
     ∷ record { bytes = firstRanked ++ start 2 ++ rank 1 7; view = InLast ranks; seen = 23 ∷ 5 ∷ replicate 7 0 }
     ∷ record { bytes = firstRanked ++ start 2 ++ crash 2 ++ rank 1 7; view = InLast ranks; seen = 23 ∷ 5 ∷ replicate 7 0 }
     ∷ record { bytes = setUp 8 16 ++ start 8 ++ rank 1 1; view = InLast ranks; seen = 23 ∷ replicate 8 0 }
-    ∷ record { bytes = firstRanked ++ (0x09 ∷ []); view = InLast ranks; seen = 1 ∷ 5 ∷ replicate 7 0 }
+    ∷ record { bytes = firstRanked ++ (0x0a ∷ []); view = InLast ranks; seen = 1 ∷ 5 ∷ replicate 7 0 }
     ∷ []
 
 abbrev pub RanksRehearsed : Type 0

@@ -7,6 +7,7 @@ use Rattle.lists.specs.Entries.{upTo}
 use Rattle.election.specs.Listing.{output}
 use Rattle.election.specs.Schedule.{End, schedule}
 use Rattle.election.specs.System.{station, delay, sentBy, underway}
+use Rattle.station.specs.declared.Station.{Station}
 use Rattle.election.specs.declared.System.{System}
 
 -- what is looked at: all that is printed; or something in the last system, with the refusal before it
@@ -48,6 +49,10 @@ kept p s = station s p .leader ∷ station s p .stable ∷ []
 abbrev pub known : ℕ → System → List ℕ
 known p s = station s p .leader ∷ take (s .n) (station s p .recovered)
 
+-- of a clock head: whom it trusts, its timer, its stamp, the lowest that it knows, its timeout
+abbrev pub clocked : ℕ → System → List ℕ
+clocked p s = let x : Station = station s p in x .leader ∷ x .timer ∷ x .stamp ∷ x .lowest ∷ x .timeout ∷ []
+
 -- the ranks
 abbrev pub ranks : System → List ℕ
 ranks s = s .ranks
@@ -59,12 +64,15 @@ sentCount p s = sentBy s p ∷ []
 abbrev pub delayOf : ℕ → ℕ → System → List ℕ
 delayOf p q s = delay s p q ∷ []
 
-abbrev pub carried : ℕ → ℕ → System → List ℕ
-carried p q s = length (underway s p q) ∷ length (underway s q p) ∷ []
+abbrev pub onTheWay : ℕ → ℕ → System → List ℕ
+onTheWay p q s = length (underway s p q) ∷ length (underway s q p) ∷ []
 
 -- the bytes of each command; a run of at most 255 ticks
 abbrev pub setUp : ℕ → ℕ → List ℕ
 setUp n period = 0x01 ∷ n ∷ period ∷ []
+
+abbrev pub setUpClocks : ℕ → ℕ → List ℕ
+setUpClocks n period = 0x09 ∷ n ∷ period ∷ []
 
 abbrev pub start : ℕ → List ℕ
 start p = 0x02 ∷ p ∷ []

@@ -28,10 +28,13 @@ noStation =
       recovering = false;
       recovered = [];
       timeouts = [];
+      stamp = 0;
+      lowest = 0;
+      timeout = 0;
     }
 
 abbrev pub noMessage : Message
-noMessage = record { sent = 0; due = 0; counts = [] }
+noMessage = record { sent = 0; due = 0; counts = []; stamp = 0 }
 
 abbrev pub noLink : Link
 noLink = record { used = 0; messages = [] }
@@ -65,7 +68,7 @@ unfoldable pub messages : Link → List Message
 messages l = take (l .used) (l .messages)
 
 abbrev pub unused : Message
-unused = record { sent = 0; due = 0; counts = replicate 8 0 }
+unused = record { sent = 0; due = 0; counts = replicate 8 0; stamp = 0 }
 
 unfoldable pub holding : List Message → Link
 holding ms = record { used = length ms; messages = over ms (replicate places unused) }
@@ -95,11 +98,13 @@ fresh =
       delays = replicate 64 0;
       links = replicate 64 (holding []);
       ranks = replicate 8 0;
+      clock = false;
     }
 
--- Set up leaves the tick at 0, every station down and never started, no message under way, sent counts and ranks at 0, every delay at 1.
-unfoldable pub initial : ℕ → ℕ → System
-initial n period =
+-- Set up leaves the tick at 0, every station down and never started, no message under way, sent counts and ranks at 0, every delay at 1;
+-- and heads of the kind that was asked for.
+unfoldable pub initial : Bool → ℕ → ℕ → System
+initial clock n period =
     record {
       ready = true;
       n = n;
@@ -110,6 +115,7 @@ initial n period =
       delays = upTo 64 (λ k. cond (isLink n (from k) (to k)) 1 0);
       links = replicate 64 (holding []);
       ranks = replicate 8 0;
+      clock = clock;
     }
 
 -- the system with another tick, and other stations, sent counts, delays, links and ranks; all else stays
@@ -125,6 +131,7 @@ renewed tick stations sent delays links ranks s =
       delays = delays;
       links = links;
       ranks = ranks;
+      clock = s .clock;
     }
 
 -- .. with one of these alone

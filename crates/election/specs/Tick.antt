@@ -7,6 +7,7 @@ use lib.ListN.{getD}
 use lib.Dec.{ltb, eqb}
 use Rattle.lists.specs.Entries.{upTo}
 use Rattle.lists.specs.Fold.{each}
+use Rattle.clock.specs.Rules.{carried}
 use Rattle.station.specs.declared.Station.{Station}
 use Rattle.election.specs.Heads.{Hearing, hearing, expiring, slotting, announces}
 use Rattle.election.specs.System.{noStation, noLink, station, from, to, delay, underway, isLink, holding, renewed}
@@ -49,17 +50,21 @@ sending s p = settled s p .up && eqb (settled s p .slot) (next s) && announces s
 
 -- station p after (c)
 abbrev pub stationNext : System → ℕ → Station
-stationNext s p = slottedNow (slotting s (next s)) (next s) (settled s p)
+stationNext s p = slottedNow (slotting s p (next s)) (next s) (settled s p)
 
 -- the messages that are not due now
 unfoldable pub later : ℕ → List Message → List Message
 later now [] = []
 later now (m ∷ ms) = cond (eqb (m .due) now) (later now ms) (m ∷ later now ms)
 
+-- the LEADER of a station, as it is, sent and due at these ticks: a flash head's stamp is zero, and so are a clock head's counts
+abbrev pub announced : ℕ → ℕ → Station → Message
+announced sent due x = record { sent = sent; due = due; counts = x .recovered; stamp = carried x }
+
 -- the delay is read at sending; at delay 0 the message vanishes
 unfoldable pub sent : System → ℕ → ℕ → List Message
 sent s p q =
-    cond (sending s p && not (eqb (delay s p q) 0)) (record { sent = next s; due = next s + delay s p q; counts = settled s p .recovered } ∷ []) []
+    cond (sending s p && not (eqb (delay s p q) 0)) (announced (next s) (next s + delay s p q) (settled s p) ∷ []) []
 
 -- the messages from p to q after the tick
 abbrev pub underwayAfter : System → ℕ → ℕ → List Message

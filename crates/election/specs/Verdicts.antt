@@ -1,6 +1,7 @@
--- The verdict by the papers' sentences: dark if none is up; where all up stations trust the same L, agreed L if L is up, else agreed dark L; else split.
+-- The verdict by the papers' sentences: dark if none is up; where all up stations trust the same L, agreed L if L is up, else agreed dark L; else
+-- split, as it is with an up station that trusts nobody.
 use mathlib.Core.Path.{_≡_}
-use mathlib.Core.Logic.{_≢_, _↔_}
+use mathlib.Core.Logic.{_≢_, _↔_, _⊎_}
 use mathlib.Core.List.{List}
 use mathlib.Core.Bool.{true, false}
 use Prim.Native.Nat.{ℕ, _≤_}
@@ -37,12 +38,20 @@ AllTrust n stations l = (p : ℕ) → Up n stations p → trusted stations p ≡
 abbrev pub TwoDiffer : ℕ → List Station → Type 0
 TwoDiffer n stations = (p : ℕ) × (q : ℕ) × Up n stations p × Up n stations q × (trusted stations p ≢ trusted stations q)
 
+-- an up station trusts nobody
+abbrev pub Leaderless : ℕ → List Station → Type 0
+Leaderless n stations = (p : ℕ) × Up n stations p × (trusted stations p ≡ 0)
+
+-- the up stations do not agree: two differ, or one trusts nobody
+abbrev pub Disagree : ℕ → List Station → Type 0
+Disagree n stations = TwoDiffer n stations ⊎ Leaderless n stations
+
 -- the words of each verdict
 abbrev pub Words : ℕ → List Station → Verdict → Type 0
 Words n stations Dark = NoneUp n stations
 Words n stations (Agreed l) = AllTrust n stations l × Up n stations l
-Words n stations (AgreedDark l) = SomeUp n stations × AllTrust n stations l × (Up n stations l → ⊥)
-Words n stations Split = TwoDiffer n stations
+Words n stations (AgreedDark l) = SomeUp n stations × (1 ≤ l) × AllTrust n stations l × (Up n stations l → ⊥)
+Words n stations Split = Disagree n stations
 
 -- a verdict is given exactly where its words hold, for every n and every list of stations, sound or not
 abbrev pub VerdictExact : Type 0

@@ -2,11 +2,13 @@
 // specs/ has the definitions in the paper's order, proofs/ the theorems.
 use station::Station;
 
-// A LEADER under way: the tick of its sending, the tick at which it is due, and the sender's counts.
+// A LEADER under way: the tick of its sending, the tick at which it is due, and the sender's counts, or its stamp if the heads have
+// clocks; the other is zero.
 pub struct Message {
     pub sent: u32,
     pub due: u32,
     pub counts: [u16; 8],
+    pub stamp: u32,
 }
 
 // How many messages a link has places for.
@@ -35,6 +37,8 @@ pub struct System {
     pub links: [Link; 64],
     // the rank of each station, which all stations know
     pub ranks: [u8; 8],
+    // whether the heads have a running clock and no flash
+    pub clock: bool,
 }
 
 // Why something is turned down.
@@ -57,6 +61,7 @@ pub enum Refusal {
     ScheduleLong,
     RankRange,
     AlreadyStarted,
+    ClockHeads,
 }
 
 // What a command or a listing answers: its length, or why it was turned down.
@@ -65,7 +70,7 @@ pub enum Answer {
     Refused(Refusal),
 }
 
-// The verdict: no station is up; all up stations trust L, and L is up; all trust L, and L is down; or they differ.
+// The verdict: no station is up; all up stations trust L, and L is up; all trust L, and L is down; or they differ, or one trusts nobody.
 pub enum Verdict {
     Dark,
     Agreed(u8),
