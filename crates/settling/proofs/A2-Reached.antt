@@ -1,4 +1,4 @@
--- A. What holds of every system that a schedule reaches, beyond soundness; kept by each tick.
+-- A. What holds of every system of flash heads that a schedule reaches, beyond soundness; kept by each tick.
 use mathlib.Core.Path.{_≡_, refl, sym, _∙_}
 use mathlib.Core.Logic.{_≢_}
 use mathlib.Core.Bool.{Bool, true, false}
@@ -12,17 +12,17 @@ use Rattle.station.specs.Order.{entry}
 use Rattle.station.specs.declared.Station.{Station}
 use Rattle.station.proofs.Candidates.{Ranked}
 use Rattle.station.proofs.Unchanged.{Unchanged}
-use Rattle.fit.proofs.Tests.{ranked-of}
-use Rattle.election.specs.Heads.{hearing}
+use Rattle.election.specs.Heads.{byOrder}
 use Rattle.election.specs.System.{station, underway}
 use Rattle.election.specs.Tick.{next, settled, later, sent, underwayAfter, tick}
 use Rattle.election.specs.declared.Message.{Message}
 use Rattle.election.specs.declared.System.{System}
+use Rattle.settling.proofs.A0-Flash.{flash-settled, flash-ticked, flash-ranked}
 use Rattle.settling.proofs.A1-Sane.{slots-elim, Sane, hear-sane, expire-sane, slot-sane}
 use Rattle.election.proofs.Counts.{counts}
-use Rattle.election.proofs.Places.{In, tick-station, tick-underway}
+use Rattle.election.proofs.Places.{In, tick-underway}
 use Rattle.election.proofs.Soundness.{Sound}
-use Rattle.election.proofs.Steps.{all-keeps, settled-up, settled-unchanged, sending-of, tick-up, tick-count}
+use Rattle.election.proofs.Steps.{all-keeps, settled-unchanged, sending-of, tick-up, tick-count}
 use Rattle.election.proofs.TickSound.{tick-sound}
 use Rattle.election.proofs.Underway.{inbox-all, later-all, sent-all}
 
@@ -35,6 +35,7 @@ abbrev pub Low : System → Message → Type 0
 Low s m = (x : ℕ) → In (s .n) x → entry (m .counts) x ≤ counts s x
 
 pub record Reached (s : System) : Type 0 where
+  pub flash : s .clock ≡ false
   pub sound : Sound s
   pub heads : (p : ℕ) → In (s .n) p → station s p .up ≡ true → Sane (s .ranks) (s .n) (s .period) always (counts s) p (s .tick + 1) (station s p)
   pub paced : (p : ℕ) → In (s .n) p → station s p .up ≡ true → station s p .recovering ≡ false → station s p .slot ≤ s .tick + s .period
@@ -50,14 +51,14 @@ module _ (s : System) (h : Reached s) where
   small = h .sound .n-high
 
   ranked : Ranked (s .ranks)
-  ranked = ranked-of (s .n) (s .ranks) (h .sound .ranked)
+  ranked = flash-ranked s (h .flash) (h .sound)
 
   -- after (a) and (b)
   pub settled-sane : (p : ℕ) → In (s .n) p → station s p .up ≡ true → Sane (s .ranks) (s .n) (s .period) always (counts s) p (next s + 1) (settled s p)
   settled-sane p ip u =
-      rw (settled-up s p u)
+      rw (flash-settled s (h .flash) p u)
       (expire-sane (s .ranks) (s .n) (s .period) small always (counts s) p ip (next s) _ (omega arith)
-      (all-keeps (hearing s) (Sane (s .ranks) (s .n) (s .period) always (counts s) p (next s)) (λ q m. (q ≢ p) × Low s m) (s .n) p (next s) (λ q. underway s q p)
+      (all-keeps (byOrder (s .ranks)) (Sane (s .ranks) (s .n) (s .period) always (counts s) p (next s)) (λ q m. (q ≢ p) × Low s m) (s .n) p (next s) (λ q. underway s q p)
       (λ q m y iq f. hear-sane (s .ranks) ranked (s .n) (s .period) small always (counts s) p ip (next s) q (m .counts) y refl iq (f .0) (λ x ix t. f .1 x ix))
       (λ q iq. all-map (λ m. (q ≢ p) × Low s m) _ (λ m f e. f) (underway s q p) (inbox-all s (h .sound) (λ q. Low s) p ip (λ q iq ne. h .mail q p iq ip ne) q iq))
       (station s p) (h .heads p ip u)))
@@ -65,13 +66,13 @@ module _ (s : System) (h : Reached s) where
   heads′ : (p : ℕ) → In (s .n) p → station (tick s) p .up ≡ true → Sane (s .ranks) (s .n) (s .period) always (counts (tick s)) p (next s + 1) (station (tick s) p)
   heads′ p ip u =
       recount (s .ranks) (s .n) (s .period) (counts s) (counts (tick s)) p (next s + 1) (station (tick s) p) ip (λ x ix. le-of-eq (sym (tick-count s small x ix))) (sym (tick-count s small p ip))
-      (rw (tick-station s small p ip) (slot-sane (s .ranks) (s .n) (s .period) small always (counts s) p ip (next s + 1) (next s) (settled s p) (settled-sane p ip (sym (tick-up s small p ip) ∙ u))))
+      (rw (flash-ticked s (h .flash) small p ip) (slot-sane (s .ranks) (s .n) (s .period) small always (counts s) p ip (next s + 1) (next s) (settled s p) (settled-sane p ip (sym (tick-up s small p ip) ∙ u))))
 
   paced′ : (p : ℕ) → In (s .n) p → station (tick s) p .up ≡ true → station (tick s) p .recovering ≡ false → station (tick s) p .slot ≤ next s + s .period
   paced′ p ip u =
       let v : Unchanged (station s p) (settled s p) = settled-unchanged s p in
       let old : station s p .recovering ≡ false → station s p .slot ≤ s .tick + s .period = h .paced p ip (sym (tick-up s small p ip) ∙ u) in
-      rw (tick-station s small p ip)
+      rw (flash-ticked s (h .flash) small p ip)
       (slots-elim (λ (y : Station). y .recovering ≡ false → y .slot ≤ next s + s .period) (s .period) (next s) (settled s p)
       (λ e w. omega arith) (λ e w. omega (arith, v .slot, old (sym (v .recovering) ∙ w))))
 
@@ -85,4 +86,4 @@ module _ (s : System) (h : Reached s) where
 
   pub tick-reached : s .tick < 1000000 → Reached (tick s)
   unfolding tick
-  tick-reached more-ticks = record { sound = tick-sound s (h .sound) more-ticks; heads = heads′; paced = paced′; mail = mail′ }
+  tick-reached more-ticks = record { flash = h .flash; sound = tick-sound s (h .sound) more-ticks; heads = heads′; paced = paced′; mail = mail′ }

@@ -1,7 +1,7 @@
--- A. Every accepted command keeps what holds of reached systems.
+-- A. Every accepted command keeps what holds of reached systems of flash heads.
 use mathlib.Core.Path.{_≡_, sym, ap, _∙_}
 use mathlib.Core.Logic.{_≢_}
-use mathlib.Core.Bool.{true, false, cond, true≢false}
+use mathlib.Core.Bool.{Bool, true, false, cond, true≢false}
 use mathlib.Core.List.{List, [], _∷_}
 use Prim.Native.Nat.{ℕ, _+_, _-_, _≤_, _<_}
 use native.Mathlib.Decide.{ℕ-discrete}
@@ -21,22 +21,24 @@ use Rattle.station.specs.declared.Station.{Station}
 use Rattle.station.proofs.Candidates.{Ranked}
 use Rattle.station.proofs.Elimination.{started-elim}
 use Rattle.station.proofs.Fields.{started-count, started-recovering, crashed-count, crashed-up}
-use Rattle.fit.proofs.Tests.{ranked-of, fit-ranges}
+use Rattle.fit.proofs.Tests.{fit-ranges}
 use Rattle.station.proofs.Vectors.{other-of}
 use Rattle.election.specs.Commands.{Command, SetUp, Start, Crash, Link, Run, Lose, Report, Rank, noneStarted, tests, perform}
+use Rattle.election.specs.Heads.{starting}
 use Rattle.election.specs.System.{withStation, withDelay, withoutMessages, withRank, noLink, station, place, messages, holding, underway, fresh, initial}
 use Rattle.election.specs.Sound.{sound}
 use Rattle.election.specs.Tick.{ticks}
 use Rattle.election.specs.declared.Message.{Message}
 use Rattle.election.specs.declared.System.{System}
 use Rattle.election.proofs.Accepting.{Accepts, accepts}
+use Rattle.settling.proofs.A0-Flash.{flash-starting, flash-fits, flash-ranked}
 use Rattle.settling.proofs.A1-Sane.{rank-high, Sane}
 use Rattle.election.proofs.Changes.{start-sound, crash-sound, delay-sound, lose-sound, rank-sound, changed-same, changed-other}
 use Rattle.election.proofs.InitialSound.{fresh-sound, initial-station, initial-sound}
 use Rattle.election.proofs.KeepsSound.{perform-keeps}
 use Rattle.election.proofs.Places.{In, place-in, widen, same-place}
 use Rattle.election.proofs.Ranks.{nobody-up}
-use Rattle.election.proofs.Counts.{counts}
+use Rattle.election.proofs.Counts.{counts, ticks-clock}
 use Rattle.election.proofs.Followed.{Allowed}
 use Rattle.election.specs.History.{reached}
 use Rattle.settling.proofs.A2-Reached.{always, Low, Reached, recount, tick-reached}
@@ -57,6 +59,7 @@ module _ (s : System) (f : Sound s) (p : ℕ) (ip : In (s .n) p) (x : Station) w
       → Reached (withStation p x s)
   changed-reached h snd rises sane paced =
       record {
+        flash = h .flash;
         sound = snd;
         heads = λ r ir. go-heads r ir (ℕ-discrete r p);
         paced = λ r ir. go-paced r ir (ℕ-discrete r p);
@@ -103,14 +106,16 @@ start-sane ranks ranked n period tick small p ip x st C e =
     low v C own e none q iq (yes i) = rw i (omega (arith, own, e))
     low v C own e none q iq (no ne) = omega (arith, none q iq ne)
 
-pub start-reached : (s : System) → Reached s → (p : ℕ) → In (s .n) p → station s p .incarnation < 4095 → Reached (withStation p (started p (s .n) (s .period) (s .tick) (station s p)) s)
+pub start-reached : (s : System) → Reached s → (p : ℕ) → In (s .n) p → station s p .incarnation < 4095 → Reached (withStation p (starting s p (station s p)) s)
 start-reached s h p ip few =
-    let k = fit-ranges p (s .n) (s .period) (s .tick) (station s p) (h .sound .fits p ip) .1 in
+    let k = fit-ranges p (s .n) (s .period) (s .tick) (station s p) (flash-fits s (h .flash) (h .sound) p ip) .1 in
     let st : In (s .n) (station s p .stable) = record { low = k .low; high = k .high } in
+    let same : starting s p (station s p) ≡ started p (s .n) (s .period) (s .tick) (station s p) = flash-starting s (h .flash) p (station s p) in
     let rises : started p (s .n) (s .period) (s .tick) (station s p) .incarnation ≡ station s p .incarnation + 1 = started-count p (s .n) (s .period) (s .tick) (station s p) in
-    changed-reached s (h .sound) p ip (started p (s .n) (s .period) (s .tick) (station s p)) h (start-sound s (h .sound) p ip few) (omega (arith, rises))
-    (λ u C e. start-sane (s .ranks) (ranked-of (s .n) (s .ranks) (h .sound .ranked)) (s .n) (s .period) (s .tick) (h .sound .n-high) p ip (station s p) st C (e ∙ rises))
-    (λ u w. absurd (true≢false (sym (started-recovering p (s .n) (s .period) (s .tick) (station s p)) ∙ w)))
+    rw same
+    (changed-reached s (h .sound) p ip (started p (s .n) (s .period) (s .tick) (station s p)) h (rw same at (start-sound s (h .sound) p ip few)) (omega (arith, rises))
+    (λ u C e. start-sane (s .ranks) (flash-ranked s (h .flash) (h .sound)) (s .n) (s .period) (s .tick) (h .sound .n-high) p ip (station s p) st C (e ∙ rises))
+    (λ u w. absurd (true≢false (sym (started-recovering p (s .n) (s .period) (s .tick) (station s p)) ∙ w))))
 
 pub crash-reached : (s : System) → Reached s → (p : ℕ) → In (s .n) p → station s p .up ≡ true → Reached (withStation p (crashed (station s p)) s)
 crash-reached s h p ip u =
@@ -129,6 +134,7 @@ module _ (s : System) (a b : ℕ) (ia : In 8 a) (ib : In 8 b) where
 pub lose-reached : (s : System) → Reached s → (a b : ℕ) → In (s .n) a → In (s .n) b → a ≢ b → Reached (withoutMessages a b s)
 lose-reached s h a b ia ib ne =
     record {
+      flash = h .flash;
       sound = lose-sound s (h .sound) a b ia ib ne;
       heads = h .heads;
       paced = h .paced;
@@ -138,13 +144,14 @@ lose-reached s h a b ia ib ne =
 
 pub delay-reached : (s : System) → Reached s → (a b d : ℕ) → In (s .n) a → In (s .n) b → a ≢ b → d ≤ longestDelay → Reached (withDelay a b d s)
 delay-reached s h a b d ia ib ne few =
-    record { sound = delay-sound s (h .sound) a b ia ib ne d few; heads = h .heads; paced = h .paced; mail = h .mail }
+    record { flash = h .flash; sound = delay-sound s (h .sound) a b ia ib ne d few; heads = h .heads; paced = h .paced; mail = h .mail }
 
 pub rank-reached : (s : System) → Reached s → (p r : ℕ) → In (s .n) p → r ≤ mostRank → noneStarted (s .stations) ≡ true → Reached (withRank p r s)
 rank-reached s h p r ip few none =
     record {
-      sound = rank-sound s (h .sound) p r ip few;
-      heads = λ q iq u. absurd (nobody-up s (h .sound) none q iq u);
+      flash = h .flash;
+      sound = rank-sound s (h .sound) (h .flash) p r ip few;
+      heads = λ q iq u. absurd (nobody-up s (h .sound) (h .flash) none q iq u);
       paced = h .paced;
       mail = h .mail;
     }
@@ -152,41 +159,43 @@ rank-reached s h p r ip few none =
 pub ticks-reached : (t : ℕ) (s : System) → s .tick + t ≤ 1000000 → Reached s → Reached (ticks t s)
 ticks-reached = ticks-keep Reached tick-reached
 
-pub initial-reached : (n period : ℕ) → 2 ≤ n → n ≤ 8 → 16 ≤ period → period ≤ 255 → Reached (initial n period)
+pub initial-reached : (clock : Bool) (n period : ℕ) → 2 ≤ n → n ≤ 8 → 16 ≤ period → period ≤ 255 → initial clock n period .clock ≡ false → Reached (initial clock n period)
 unfolding initial messages holding
-initial-reached n period n-low n-high p-low p-high =
+initial-reached clock n period n-low n-high p-low p-high flash =
     record {
-      sound = initial-sound n period n-low n-high p-low p-high;
+      flash = flash;
+      sound = initial-sound clock n period n-low n-high p-low p-high;
       heads = λ p ip u. absurd (true≢false (sym u ∙ down p ip));
       paced = λ p ip u. absurd (true≢false (sym u ∙ down p ip));
       mail = λ q p iq ip ne. rw (getD-replicate 64 (place q p) (holding []) noLink (place-in q p (widen n q n-high iq) (widen n p n-high ip))) tt;
     }
   where
-    down : (p : ℕ) → In n p → station (initial n period) p .up ≡ false
-    down p ip = ap (λ (x : Station). x .up) (initial-station n period n-high p ip)
+    down : (p : ℕ) → In n p → station (initial clock n period) p .up ≡ false
+    down p ip = ap (λ (x : Station). x .up) (initial-station clock n period n-high p ip)
 
--- what holds of a system before set up as well
+-- what holds of a system before set up as well, and of one of clock heads
 pub record Arrived (s : System) : Type 0 where
   pub is-sound : sound s ≡ true
-  pub reached : s .ready ≡ true → Reached s
+  pub reached : s .ready ≡ true → s .clock ≡ false → Reached s
 
-performed : (c : Command) (s : System) → Accepts c s → (s .ready ≡ true → Reached s) → Reached (perform c s)
+-- after set up no command changes the kind of head
+performed : (c : Command) (s : System) → Accepts c s → (s .ready ≡ true → s .clock ≡ false → Reached s) → perform c s .clock ≡ false → Reached (perform c s)
 unfolding perform
-performed (SetUp n period) s (r, a, b, c, d) h = initial-reached n period a b c d
-performed (Start p) s (r, i, d, few) h = start-reached s (h r) p i few
-performed (Crash p) s (r, i, u) h = crash-reached s (h r) p i u
-performed (Link p q d) s (r, i, j, ne, few) h = delay-reached s (h r) p q d i j ne few
-performed (Run t) s (r, l, room) h = ticks-reached t s room (h r)
-performed (Lose p q) s (r, i, j, ne) h = lose-reached s (h r) p q i j ne
-performed Report s r h = h r
-performed (Rank p x) s (r, i, few, none) h = rank-reached s (h r) p x i few none
+performed (SetUp clock n period) s (r, a, b, c, d) h k = initial-reached clock n period a b c d k
+performed (Start p) s (r, i, d, few) h k = start-reached s (h r k) p i few
+performed (Crash p) s (r, i, u) h k = crash-reached s (h r k) p i u
+performed (Link p q d) s (r, i, j, ne, few) h k = delay-reached s (h r k) p q d i j ne few
+performed (Run t) s (r, l, room) h k = ticks-reached t s room (h r (sym (ticks-clock t s) ∙ k))
+performed (Lose p q) s (r, i, j, ne) h k = lose-reached s (h r k) p q i j ne
+performed Report s r h k = h r k
+performed (Rank p x) s (r, flash, i, few, none) h k = rank-reached s (h r k) p x i few none
 
 pub perform-arrived : (c : Command) (s : System) → firstFailed (tests s c) ≡ 0 → Arrived s → Arrived (perform c s)
 perform-arrived c s t h = record { is-sound = perform-keeps c s (h .is-sound) t; reached = λ r. performed c s (accepts c s t) (h .reached) }
 
 pub fresh-arrived : Arrived fresh
 unfolding fresh
-fresh-arrived = record { is-sound = fresh-sound; reached = λ r. absurd (true≢false (sym r)) }
+fresh-arrived = record { is-sound = fresh-sound; reached = λ r k. absurd (true≢false (sym r)) }
 
 -- and of a list of commands, each accepted by the system that the last one left
 pub reached-arrived : (cs : List Command) (s : System) → Allowed cs s → Arrived s → Arrived (reached cs s)

@@ -21,14 +21,15 @@ use Rattle.election.specs.Tick.{next, slottedNow, settled, sending, later, sent
 use Rattle.election.specs.declared.Message.{Message}
 use Rattle.election.specs.declared.System.{System}
 use Rattle.settling.proofs.B-Calm.{Stretch, keyAt, keyL, rank-in, Calm, expire-calm, calm-self}
+use Rattle.settling.proofs.A0-Flash.{flash-settled, flash-ticked, flash-sending}
 use Rattle.settling.proofs.A1-Sane.{Known, Sane}
 use Rattle.settling.proofs.D-Deadline.{soonest, soonest-le, soonest-mono, soonest-append, deadline}
 use Rattle.settling.proofs.E2-Follower.{Due, due?, FairTo, spare, ticked, all-calm, ticked-calm, move-hit, move-quiet}
-use Rattle.election.proofs.Places.{In, tick-station, tick-underway}
+use Rattle.election.proofs.Places.{In, tick-underway}
 use Rattle.settling.proofs.E1-Phase.{Phase, Move, early, move-phase}
 use Rattle.election.proofs.Counts.{counts}
 use Rattle.settling.proofs.A2-Reached.{always, Reached, settled-sane, tick-reached}
-use Rattle.election.proofs.Steps.{settled-up, settled-unchanged, sending-of, tick-up, tick-count, tick-slotted, tick-unslotted}
+use Rattle.election.proofs.Steps.{settled-unchanged, sending-of, tick-up, tick-count, tick-slotted, tick-unslotted}
 use Rattle.election.proofs.Underway.{inbox-all, later-all, later-none, sent-all}
 
 -- A message from q to a steady head.
@@ -68,15 +69,18 @@ module _ (K : Stretch) (s : System) (h : Inv K s) where
   pub in-s : (p : ℕ) → In (K .n) p → In (s .n) p
   in-s p i = record { low = i .low; high = omega (arith, i .high, h .same-n) }
 
+  abbrev flash : s .clock ≡ false
+  flash = h .reached .flash
+
   pub n-high : s .n ≤ 8
   n-high = h .reached .sound .n-high
 
   pub station-next : (p : ℕ) → In (K .n) p → station (tick s) p ≡ slottedNow (slotted (K .period) (next s)) (next s) (settled s p)
-  station-next p i = tick-station s n-high p (in-s p i) ∙ ap (λ b. slottedNow (slotted b (next s)) (next s) (settled s p)) (h .same-period)
+  station-next p i = flash-ticked s flash n-high p (in-s p i) ∙ ap (λ b. slottedNow (slotted b (next s)) (next s) (settled s p)) (h .same-period)
 
   pub steady-next : (p : ℕ) → In (K .n) p → K .steady p ≡ true → station (tick s) p ≡ ticked (K .ranks) (K .n) (K .period) p (next s) (λ q. underway s q p) (station s p)
   steady-next p i u =
-      station-next p i ∙ ap (slottedNow (slotted (K .period) (next s)) (next s)) (settled-up s p (h .ups p i u))
+      station-next p i ∙ ap (slottedNow (slotted (K .period) (next s)) (next s)) (flash-settled s flash p (h .ups p i u))
       ∙ ap (λ n. ticked (s .ranks) n (K .period) p (next s) (λ q. underway s q p) (station s p)) (h .same-n)
       ∙ ap (λ r. ticked r (K .n) (K .period) p (next s) (λ q. underway s q p) (station s p)) (h .same-ranks)
 
@@ -88,7 +92,7 @@ module _ (K : Stretch) (s : System) (h : Inv K s) where
   -- After steps (a) and (b).
   settled-calm : (p : ℕ) → In (K .n) p → K .steady p ≡ true → Calm K p (next s + 1) (settled s p)
   settled-calm p ip u =
-      rw (settled-up s p (h .ups p ip u), h .same-n, h .same-ranks)
+      rw (flash-settled s flash p (h .ups p ip u), h .same-n, h .same-ranks)
       (expire-calm K p ip u (h .least p ip u) (next s) _ (omega arith) (all-calm K p (next s) (omega arith) ip u (h .least p ip u) (λ q. underway s q p) (fair p ip u) (station s p) (h .calm p ip u)))
 
   -- What an up head other than L sends is late: a steady one is after L, any other has more starts.
@@ -136,7 +140,7 @@ module _ (K : Stretch) (s : System) (h : Inv K s) where
     -- L's next message to p, or its next chance with d, after the tick: no later than before it.
     reach : K .since + K .M + 2 * K .d < next s → (p : ℕ) → In (K .n) p → K .steady p ≡ true → p ≢ K .L
         → soonest (sent s (K .L) p) (station (tick s) (K .L) .slot + K .d) ≤ station s (K .L) .slot + K .d
-    unfolding soonest sent Fine sending
+    unfolding soonest sent Fine
     reach late p ip u pL = go (ℕ-discrete (station s (K .L) .slot) (next s))
       where
         z : Station
@@ -147,7 +151,7 @@ module _ (K : Stretch) (s : System) (h : Inv K s) where
             let a : z .up ≡ true = settled-unchanged s (K .L) .up ∙ h .ups (K .L) (K .L-in) (K .L-steady) in
             let b : eqb (z .slot) (next s) ≡ true = eq-eqb _ _ (settled-unchanged s (K .L) .slot ∙ e) in
             let c : eqb (z .leader) (K .L) ≡ true = eq-eqb _ _ (calm-self K (next s + 1) z (settled-calm (K .L) (K .L-in) (K .L-steady)) (omega arith)) in
-            let t : sending s (K .L) ≡ true = rw (a, b, c) in
+            let t : sending s (K .L) ≡ true = flash-sending s flash (K .L) ∙ rw (a, b, c) in
             let f : (0 < delay s (K .L) p) × (delay s (K .L) p ≤ K .d) = fine (K .L) p (K .L-in) ip (λ x. pL (sym x)) (K .L-steady) u t in
             rw (t, ne-eqb (delay s (K .L) p) 0 (omega arith)) (omega arith)
         go (no ne) = omega (arith, soonest-le (sent s (K .L) p) (station (tick s) (K .L) .slot + K .d), slot-next .1 ne)

@@ -12,11 +12,12 @@ use Rattle.lists.proofs.Every.{all-both}
 use Rattle.lists.proofs.Largest.{max-least}
 use Rattle.station.specs.Order.{entry, before}
 use Rattle.station.proofs.Candidates.{keyOf, before-key}
-use Rattle.fit.proofs.Tests.{ranked-of, fit-of}
+use Rattle.fit.proofs.Tests.{fit-of}
 use Rattle.settling.specs.Settling.{Arriving, longestWait, longestTimeout}
 use Rattle.election.specs.System.{station, underway}
 use Rattle.election.specs.declared.System.{System}
 use Rattle.settling.proofs.B-Calm.{Stretch, keyAt, keyL, rank-in, Calm}
+use Rattle.settling.proofs.A0-Flash.{flash-fits, flash-ranked}
 use Rattle.settling.proofs.A1-Sane.{Sane}
 use Rattle.settling.proofs.E3-Invariant.{Inv}
 use Rattle.settling.proofs.D-Deadline.{soonest-le}
@@ -71,7 +72,7 @@ module _ (s : System) (h : Reached s) (d L : ℕ) (first : FirstUp s L) where
         steady = λ p. station s p .up;
         C = counts s;
         ranks = s .ranks;
-        ranked = ranked-of (s .n) (s .ranks) (h .sound .ranked);
+        ranked = flash-ranked s (h .flash) (h .sound);
         small = h .sound .n-high;
         beats = omega (arith, h .sound .period-low);
         L-in = first .inside;
@@ -103,7 +104,7 @@ module _ (s : System) (h : Reached s) (d L : ℕ) (first : FirstUp s L) where
       go : Dec (station s p .leader ≡ p) → station s p .leader ≢ L → keyOf (s .ranks) (station s p .recovered) (station s p .leader) ≤ keyL from-here → station s p .timer ≤ s .tick + longestTimeout s + 2 * d
       go (yes e) ne le = let z : station s p .timer ≡ 0 = h .heads p ip u .off e in omega arith
       go (no np) ne le =
-          let (low, high) = fit-of p (s .n) (s .period) (s .tick) (station s p) (h .sound .fits p ip) u .1 .on np in
+          let (low, high) = fit-of p (s .n) (s .period) (s .tick) (station s p) (flash-fits s (h .flash) (h .sound) p ip) u .1 .on np in
           omega (arith, timeout-below s p (station s p .leader) ip (h .heads p ip u .range) np u)
 
   begin-hi : station s L .slot ≤ max (s .tick + longestWait s) (s .tick + s .period)
@@ -129,7 +130,7 @@ module _ (s : System) (h : Reached s) (d L : ℕ) (first : FirstUp s L) where
             all-both (λ m. (s .tick < m .due) × Low s m) (λ m. m .due ≤ s .tick + d) _ (λ m a b. record { ahead = a .0; low = λ x ix Sx. a .1 x ix; old = λ ne le. b }) (underway s q p)
             (all-both (λ m. s .tick < m .due) (Low s) _ (λ m a b. (a, b)) (underway s q p) (underway-due s (h .sound) q p iq ip ne) (h .mail q p iq ip ne))
             (arriving q p (iq .low) (iq .high) (ip .low) (ip .high) ne u);
-        next-lo = fit-of L (s .n) (s .period) (s .tick) (station s L) (h .sound .fits L (first .inside)) (first .is-up) .0 .slot-low;
+        next-lo = fit-of L (s .n) (s .period) (s .tick) (station s L) (flash-fits s (h .flash) (h .sound) L (first .inside)) (first .is-up) .0 .slot-low;
         next-hi = begin-hi;
         phases = λ p ip u pL. early (omega (arith, soonest-le (underway s L p) (station s L .slot + d), begin-hi));
       }

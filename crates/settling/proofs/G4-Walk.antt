@@ -152,7 +152,7 @@ delay-inv K x a b d ia ib ne few h =
 pay : (K : Stretch) (N : ℕ) (c : Command) (x : System) → Accepts c x → Permitted c → LosesNone c x → All (Sent (λ y. y ≢ 0)) (ticksOf c x) → All (Sent (λ y. y ≤ K .d)) (ticksOf c x)
     → Budget K N x → Says K x → Paid K N (dividedTicks (K .L) (ticksOf c x)) (perform c x)
 unfolding perform dividedTicks
-pay K N (SetUp n period) x a ok none cut short b says = absurd ok
+pay K N (SetUp clock n period) x a ok none cut short b says = absurd ok
 pay K N (Start p) x a ok none cut short b says = absurd ok
 pay K N (Crash p) x a ok none cut short b says = absurd ok
 pay K N (Link p q d) x (r, ip, iq, ne, few) ok none cut short b says =

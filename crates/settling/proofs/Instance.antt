@@ -19,7 +19,7 @@ use Rattle.election.specs.Schedule.{End, schedule}
 use Rattle.election.proofs.Opened.{rules}
 use Rattle.election.proofs.Ruled.{ruled, byRules}
 use Rattle.election.proofs.Tables.{schedule-ruled}
-use Rattle.settling.specs.Instance.{bytes, stretch, d, L, begin, Meets, Instance, slowStretch, SlowLinks, beforeCrash, withCrash, CrashOfL, withLosses, LostToUp, withCut, CutToUp, withDelay, SentLate, beforeLate, afterLate, LateUnderWay, beforeLowest, afterLowest, LowestNumber, beforeRanked, afterRanked, Preferred, RankLeftOut}
+use Rattle.settling.specs.Instance.{bytes, stretch, d, L, begin, Meets, Instance, slowStretch, SlowLinks, beforeCrash, withCrash, CrashOfL, withLosses, LostToUp, withCut, CutToUp, withDelay, SentLate, beforeLate, afterLate, LateUnderWay, beforeLowest, afterLowest, LowestNumber, beforeRanked, afterRanked, Preferred, RankLeftOut, FlashTables, beforeClock, afterClock, ClockHeads}
 use Rattle.election.specs.declared.Message.{Message}
 use Rattle.election.specs.declared.System.{System}
 use Rattle.settling.proofs.Tested.{every, implies, pairs, sentTest, arrivingTest, eachTest, permittedTest, losesNoneTest, firstTest, Found, found, Says, says, quiet-of}
@@ -30,13 +30,13 @@ unfolding rules ruled maxTo allTrust after history starts isUp rankOf moments be
 computing = tt
 
 -- what is found: the conditions, the ticks, how many are divided, the bound
-abbrev finding : Bool → Bool → Bool → Bool → Bool → Bool → ℕ → ℕ → ℕ → Found
-finding first permitted none-lost none-cut arriving within all-ticks divided bound =
-    record { refusal = 0; first = first; permitted = permitted; none-lost = none-lost; none-cut = none-cut; arriving = arriving; within = within; all-ticks = all-ticks; divided = divided; bound = bound }
+abbrev finding : Bool → Bool → Bool → Bool → Bool → Bool → Bool → ℕ → ℕ → ℕ → Found
+finding flash first permitted none-lost none-cut arriving within all-ticks divided bound =
+    record { refusal = 0; flash = flash; first = first; permitted = permitted; none-lost = none-lost; none-cut = none-cut; arriving = arriving; within = within; all-ticks = all-ticks; divided = divided; bound = bound }
 
 -- all conditions hold
 abbrev holding : ℕ → ℕ → ℕ → Found
-holding all-ticks divided bound = finding true true true true true true all-ticks divided bound
+holding all-ticks divided bound = finding true true true true true true true all-ticks divided bound
 
 meets-of : {bytes : List ℕ} {stretch : List (List ℕ)} {d L ticks unsettled limit : ℕ} → Says bytes stretch d L (holding ticks unsettled limit) → Meets bytes stretch d L ticks unsettled limit
 meets-of s = record { accepted = s .accepted; first = s .first refl; quiet = quiet-of s refl refl refl refl refl; all-ticks = s .all-ticks; divided = s .divided; bounded = s .bounded }
@@ -111,7 +111,7 @@ pub slow-links : SlowLinks
 slow-links = meets-of (says startedSlow slowStretch 255 1 _ refl slow-found)
 
 -- a crash of L
-crash-found : found (byRules beforeCrash .end) (commands beforeCrash) withCrash 1 1 ≡ finding true false true true true true 40 38 36
+crash-found : found (byRules beforeCrash .end) (commands beforeCrash) withCrash 1 1 ≡ finding true true false true true true true 40 38 36
 unfolding computing
 crash-found = refl
 
@@ -121,7 +121,7 @@ crash-of-L =
     record { accepted = s .accepted; conditions = (s .first refl, s .none-lost refl, s .none-cut refl, s .arriving refl, s .within refl); passed = s .passed (omega arith) }
 
 -- messages to an up head that are lost, cut, sent late, and late when the stretch begins
-losses-found : found (byRules at20 .end) (commands at20) withLosses 1 1 ≡ finding true true false true true true 55 41 36
+losses-found : found (byRules at20 .end) (commands at20) withLosses 1 1 ≡ finding true true true false true true true 55 41 36
 unfolding computing
 losses-found = refl
 
@@ -130,7 +130,7 @@ lost-to-up =
     let s = says at20 withLosses 1 1 _ refl losses-found in
     record { accepted = s .accepted; conditions = (s .first refl, s .permitted refl, s .none-cut refl, s .arriving refl, s .within refl); passed = s .passed (omega arith) }
 
-cut-found : found (byRules at20 .end) (commands at20) withCut 1 1 ≡ finding true true true false true true 55 41 36
+cut-found : found (byRules at20 .end) (commands at20) withCut 1 1 ≡ finding true true true true false true true 55 41 36
 unfolding computing
 cut-found = refl
 
@@ -139,7 +139,7 @@ cut-to-up =
     let s = says at20 withCut 1 1 _ refl cut-found in
     record { accepted = s .accepted; conditions = (s .first refl, s .permitted refl, s .none-lost refl, s .arriving refl, s .within refl); passed = s .passed (omega arith) }
 
-delay-found : found (byRules at20 .end) (commands at20) withDelay 1 1 ≡ finding true true true true true false 55 41 36
+delay-found : found (byRules at20 .end) (commands at20) withDelay 1 1 ≡ finding true true true true true true false 55 41 36
 unfolding computing
 delay-found = refl
 
@@ -148,7 +148,7 @@ sent-late =
     let s = says at20 withDelay 1 1 _ refl delay-found in
     record { accepted = s .accepted; conditions = (s .first refl, s .permitted refl, s .none-lost refl, s .none-cut refl, s .arriving refl); passed = s .passed (omega arith) }
 
-late-found : found (byRules beforeLate .end) (commands beforeLate) afterLate 1 2 ≡ finding true true true true false true 55 41 36
+late-found : found (byRules beforeLate .end) (commands beforeLate) afterLate 1 2 ≡ finding true true true true true false true 55 41 36
 unfolding computing
 late-found = refl
 
@@ -158,7 +158,7 @@ late-under-way =
     record { accepted = s .accepted; conditions = (s .first refl, s .permitted refl, s .none-lost refl, s .none-cut refl, s .within refl); passed = s .passed (omega arith) }
 
 -- L the lowest number
-lowest-found : found (byRules beforeLowest .end) (commands beforeLowest) afterLowest 1 1 ≡ finding false true true true true true 40 40 37
+lowest-found : found (byRules beforeLowest .end) (commands beforeLowest) afterLowest 1 1 ≡ finding true false true true true true true 40 40 37
 unfolding computing
 lowest-found = refl
 
@@ -190,7 +190,7 @@ preferred-found = refl
 pub preferred : Preferred
 preferred = meets-of (says beforeRanked afterRanked 1 2 _ refl preferred-found)
 
-left-out-found : found (byRules beforeRanked .end) (commands beforeRanked) afterRanked 1 1 ≡ finding false true true true true true 80 80 53
+left-out-found : found (byRules beforeRanked .end) (commands beforeRanked) afterRanked 1 1 ≡ finding true false true true true true true 80 80 53
 unfolding computing
 left-out-found = refl
 
@@ -214,3 +214,24 @@ rank-left-out =
       conditions = (ap (λ (e : End). station (e .system) 1 .up) (schedule-ruled beforeRanked refl) ∙ left-out-ruled, as-many-starts, ltb-true _ _ lower-rank, quiet-of s refl refl refl refl refl);
       passed = s .passed (omega arith);
     }
+
+-- the kind of head: flash heads, and clock heads in the last one
+pub flash-tables : FlashTables
+flash-tables = (
+  says bytes stretch d L _ refl instance-found .flash refl,
+  says startedSlow slowStretch 255 1 _ refl slow-found .flash refl,
+  says beforeCrash withCrash 1 1 _ refl crash-found .flash refl,
+  says at20 withCut 1 1 _ refl cut-found .flash refl,
+  says beforeLate afterLate 1 2 _ refl late-found .flash refl,
+  says beforeLowest afterLowest 1 1 _ refl lowest-found .flash refl,
+  says beforeRanked afterRanked 1 2 _ refl preferred-found .flash refl,
+)
+
+clock-found : found (byRules beforeClock .end) (commands beforeClock) afterClock 1 2 ≡ finding false true true true true true true 40 35 19
+unfolding computing
+clock-found = refl
+
+pub clock-heads : ClockHeads
+clock-heads =
+    let s = says beforeClock afterClock 1 2 _ refl clock-found in
+    record { accepted = s .accepted; conditions = (s .first refl, quiet-of s refl refl refl refl refl); passed = s .passed (omega arith) }

@@ -89,5 +89,5 @@ first-is-fewest n cs L same = (
 )
 
 pub settling-by-starts : SettlingByStarts
-settling-by-starts bytes stretch d L ok (same, f) quiet =
-    settling bytes stretch d L ok (first-is-fewest (schedule bytes .system .n) (commands bytes) L same .1 f) quiet
+settling-by-starts bytes stretch d L ok flash (same, f) quiet =
+    settling bytes stretch d L ok flash (first-is-fewest (schedule bytes .system .n) (commands bytes) L same .1 f) quiet

@@ -1,5 +1,5 @@
 -- The proof of demand 3, file by file in its order; then its instances, that there is a leader, and the code.
---   A  what holds of every system that a schedule reaches: nobody knows more starts of a head than it has had, each head's leader is
+--   A  what holds of every system of flash heads that a schedule reaches: nobody knows more starts of a head than it has had, each head's leader is
 --      before it or itself, its timeouts are above the period, its next chance is at most a period away once its wait is over
 --   B  one steady station at a time. A leader is late if it is L or after L by the counts known and the ranks; a late leader gives way to L
 --   C  after M + 2 d ticks every leader is late, and L trusts itself
@@ -8,6 +8,7 @@
 --   F  what a follower can still lose is a number that no tick raises, and that a tick in which it does not trust L lowers
 --   G  the ticks up to W + M + 3 d and a period, and after them the sum over the followers: the bound
 --   H  in a tick that ends undivided nobody but L sends
+pub mod A0-Flash
 pub mod A1-Sane
 pub mod A2-Reached
 pub mod A3-Reaching

@@ -53,11 +53,11 @@ obeyed-answered f h (e ∷ es) s o r =
     ap (obeyed f es) (ap (λ (x : Result). x .system) (h s e r (o .0))) ∙ obeyed-answered f h es (command s e .system) (o .1) (after-command e r (o .0))
 
 pub settling-of-code-holds : SettlingOfCode
-settling-of-code-holds f g obeys runs bytes stretch d L o os ok first quiet =
+settling-of-code-holds f g obeys runs bytes stretch d L o os ok flash first quiet =
     let e : schedule bytes ≡ _ = sym (runs bytes o) in
     let same : schedule bytes .system ≡ g bytes .system = ap (λ (x : End). x .system) e in
     let (settles, is-reached) =
-    settling bytes stretch d L (ap (λ (x : End). x .refusal) e ∙ ok) (rw same first) (rw same quiet) in
+    settling bytes stretch d L (ap (λ (x : End). x .refusal) e ∙ ok) (ap (λ (x : System). x .clock) same ∙ flash) (rw same first) (rw same quiet) in
     let all : (k : ℕ) → obeyed f (take k stretch) (schedule bytes .system) ≡ given (take k stretch) (schedule bytes .system) =
     λ k. obeyed-answered f obeys (take k stretch) (schedule bytes .system) (octets-take k stretch os) (schedule-reachable bytes o) ∙ settles .answers k in
     (rw same at settles, sym same ∙ is-reached, rw same at all)

@@ -19,7 +19,7 @@ use Rattle.election.specs.declared.Commanded.{Commanded}
 use Rattle.election.specs.declared.Ended.{Ended}
 use Rattle.election.specs.declared.Ended.the-variants.{Whole, Stopped}
 use Rattle.election.specs.declared.Refusal.{Refusal}
-use Rattle.election.specs.declared.Refusal.the-variants.{UnknownCommand, MissingOperand, NotSetUp, SetUpTwice, StationsRange, PeriodRange, StationRange, StationUp, StationDown, WornOut, SameStation, NoTicks, PastLastTick, Unsound, ScheduleLong, RankRange, AlreadyStarted}
+use Rattle.election.specs.declared.Refusal.the-variants.{UnknownCommand, MissingOperand, NotSetUp, SetUpTwice, StationsRange, PeriodRange, StationRange, StationUp, StationDown, WornOut, SameStation, NoTicks, PastLastTick, Unsound, ScheduleLong, RankRange, AlreadyStarted, ClockHeads}
 use Rattle.election.specs.declared.Scheduled.{Scheduled}
 use Rattle.election.specs.declared.System.{System}
 use Rattle.election.proofs.Follow.{ruling-is, follow-refusal}
@@ -43,7 +43,8 @@ named k =
     (cond (eqb k 14) PastLastTick
     (cond (eqb k 15) Unsound
     (cond (eqb k 21) ScheduleLong
-    (cond (eqb k 22) RankRange AlreadyStarted)))))))))))))))
+    (cond (eqb k 22) RankRange
+    (cond (eqb k 23) AlreadyStarted ClockHeads))))))))))))))))
 
 -- 0, the number of a refusal, or 12
 abbrev Known : ℕ → Type 0
@@ -55,14 +56,14 @@ Named t = t .0 ≡ false → Known (t .1)
 
 tests-known : (s : System) (c : Command) → All Named (tests s c)
 unfolding named
-tests-known s (SetUp n period) = (λ f ne. refl, (λ f ne. refl, (λ f ne. refl, tt)))
+tests-known s (SetUp clock n period) = (λ f ne. refl, (λ f ne. refl, (λ f ne. refl, tt)))
 tests-known s (Start p) = (λ f ne. refl, (λ f ne. refl, (λ f ne. refl, (λ f ne. refl, tt))))
 tests-known s (Crash p) = (λ f ne. refl, (λ f ne. refl, (λ f ne. refl, tt)))
 tests-known s (Link p q d) = (λ f ne. refl, (λ f ne. refl, (λ f ne. refl, (λ f ne. absurd (ne refl), tt))))
 tests-known s (Run t) = (λ f ne. refl, (λ f ne. refl, (λ f ne. refl, tt)))
 tests-known s (Lose p q) = (λ f ne. refl, (λ f ne. refl, (λ f ne. refl, tt)))
 tests-known s Report = (λ f ne. refl, tt)
-tests-known s (Rank p r) = (λ f ne. refl, (λ f ne. refl, (λ f ne. refl, (λ f ne. refl, tt))))
+tests-known s (Rank p r) = (λ f ne. refl, (λ f ne. refl, (λ f ne. refl, (λ f ne. refl, (λ f ne. refl, tt)))))
 
 command-known : (s : System) (bytes : List ℕ) → Known (command s bytes .refusal)
 unfolding command refusal named

@@ -88,7 +88,7 @@ each-of P t h (e ∷ f ∷ es) s g =
     ((λ a. h (decode e) s (implied (accepted s e) _ x a)), each-of P t h (f ∷ es) (after s e) y)
 
 unfoldable pub permittedTest : Command → Bool
-permittedTest (SetUp n period) = false
+permittedTest (SetUp clock n period) = false
 permittedTest (Start p) = false
 permittedTest (Crash p) = false
 permittedTest (Link p q d) = true
@@ -99,7 +99,7 @@ permittedTest (Rank p r) = false
 
 permitted-of : (c : Command) → permittedTest c ≡ true → Permitted c
 unfolding permittedTest
-permitted-of (SetUp n period) e = true≢false (sym e)
+permitted-of (SetUp clock n period) e = true≢false (sym e)
 permitted-of (Start p) e = true≢false (sym e)
 permitted-of (Crash p) e = true≢false (sym e)
 permitted-of (Link p q d) e = tt
@@ -109,7 +109,7 @@ permitted-of Report e = tt
 permitted-of (Rank p r) e = true≢false (sym e)
 
 unfoldable pub losesNoneTest : Command → System → Bool
-losesNoneTest (SetUp n period) s = true
+losesNoneTest (SetUp clock n period) s = true
 losesNoneTest (Start p) s = true
 losesNoneTest (Crash p) s = true
 losesNoneTest (Link p q d) s = true
@@ -125,7 +125,7 @@ empty-of (x ∷ xs) e = absurd (true≢false (sym e))
 
 losesNone-of : (c : Command) (s : System) → losesNoneTest c s ≡ true → LosesNone c s
 unfolding losesNoneTest
-losesNone-of (SetUp n period) s e = tt
+losesNone-of (SetUp clock n period) s e = tt
 losesNone-of (Start p) s e = tt
 losesNone-of (Crash p) s e = tt
 losesNone-of (Link p q d) s e = tt
@@ -155,6 +155,7 @@ first-of n cs L e =
 -- the test of each condition, and the numbers; all at once, so that the systems are computed once
 pub record Found : Type 0 where
   pub refusal : ℕ
+  pub flash : Bool
   pub first : Bool
   pub permitted : Bool
   pub none-lost : Bool
@@ -171,6 +172,7 @@ found end cs stretch d L =
     let systems : List System = befores stretch (end .system) in
     record {
       refusal = end .refusal;
+      flash = not (end .system .clock);
       first = firstTest (end .system .n) cs L;
       permitted = eachTest (λ c x. permittedTest c) stretch (end .system);
       none-lost = eachTest losesNoneTest stretch (end .system);
@@ -185,6 +187,7 @@ found end cs stretch d L =
 -- what the tests say, once they are computed
 pub record Says (bytes : List ℕ) (stretch : List (List ℕ)) (d L : ℕ) (y : Found) : Type 0 where
   pub accepted : schedule bytes .refusal ≡ y .refusal
+  pub flash : y .flash ≡ true → schedule bytes .system .clock ≡ false
   pub first : y .first ≡ true → First (schedule bytes .system .n) (commands bytes) L
   pub permitted : y .permitted ≡ true → Only stretch (schedule bytes .system)
   pub none-lost : y .none-lost ≡ true → NoneLost stretch (schedule bytes .system)
@@ -206,6 +209,7 @@ says bytes stretch d L y fits same =
     let bounded : bound d begin ≡ y .bound = ap (λ (x : Found). x .bound) e in
     record {
       accepted = ap (λ (x : Found). x .refusal) e;
+      flash = λ t. not-true (begin .clock) (ap (λ (x : Found). x .flash) e ∙ t);
       first = λ t. first-of (begin .n) (commands bytes) L (ap (λ (x : Found). x .first) e ∙ t);
       permitted = λ t. each-of (λ c x. Permitted c) (λ c x. permittedTest c) (λ c x. permitted-of c) stretch begin (ap (λ (x : Found). x .permitted) e ∙ t);
       none-lost = λ t. each-of LosesNone losesNoneTest losesNone-of stretch begin (ap (λ (x : Found). x .none-lost) e ∙ t);

@@ -6,7 +6,7 @@ use mathlib.Core.Bool.{true, false}
 use Prim.Native.Nat.{ℕ, _+_, _<_}
 use lib.ListN.{length, take}
 use Rattle.election.specs.Commands.{ruling}
-use Rattle.election.specs.Rows.{setUp, start, crash, link, run, lose, report, rank, started, at20, startedSlow}
+use Rattle.election.specs.Rows.{setUp, setUpClocks, start, crash, link, run, lose, report, rank, started, at20, startedSlow}
 use Rattle.election.specs.Schedule.{schedule}
 use Rattle.settling.specs.Settling.{First, befores, dividedTicks, Only, NoneLost, NoneCut, NoneSentLate, Arriving, Quiet, upHeads, bound, given}
 use Rattle.election.specs.History.{commands, starts, rankOf}
@@ -150,3 +150,21 @@ RankLeftOut =
     (λ s.
     (station s 1 .up ≡ true) × (starts 1 (commands beforeRanked) ≡ starts 2 (commands beforeRanked))
     × (rankOf 0 2 (commands beforeRanked) < rankOf 0 1 (commands beforeRanked)) × Quiet 1 afterRanked s)
+
+-- all these tables are of flash heads
+abbrev pub OfFlash : List ℕ → Type 0
+OfFlash b = schedule b .system .clock ≡ false
+
+abbrev pub FlashTables : Type 0
+FlashTables = OfFlash bytes × OfFlash startedSlow × OfFlash beforeCrash × OfFlash at20 × OfFlash beforeLate × OfFlash beforeLowest × OfFlash beforeRanked
+
+-- A table of two clock heads, and all else holds. They start at tick 20, when their clocks read 36; at tick 57 both trust 1, and it crashes. 2 waits 36
+-- ticks for it, where M, which counts the timeouts of flash heads, is 0: 35 ticks are divided where the bound is 19.
+abbrev pub beforeClock : List ℕ
+beforeClock = setUpClocks 2 16 ++ run 20 ++ start 1 ++ start 2 ++ run 37 ++ crash 1
+
+abbrev pub afterClock : List (List ℕ)
+afterClock = run 40 ∷ []
+
+abbrev pub ClockHeads : Type 0
+ClockHeads = Passes beforeClock afterClock 1 2 (λ s. IsFirst beforeClock 2 s × Quiet 1 afterClock s)

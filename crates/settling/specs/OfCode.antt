@@ -1,6 +1,7 @@
 -- Demand 3 of the code: of any two functions that meet the contracts of the operations Command and Schedule.
 use mathlib.Core.Path.{_≡_}
 use mathlib.Core.List.{List, [], _∷_}
+use mathlib.Core.Bool.{false}
 use Prim.Native.Nat.{ℕ, _^_, _<_}
 use lib.ListN.{length, take}
 use Rattle.lists.specs.Every.{All}
@@ -36,13 +37,14 @@ unfoldable pub obeyed : (System → List ℕ → Commanded) → List (List ℕ) 
 obeyed f [] s = s
 obeyed f (e ∷ es) s = obeyed f es (f s e .system)
 
--- from the last system that g answers for an accepted schedule: the heads settle, it is the system that the rules give,
+-- from the last system that g answers for an accepted schedule, of flash heads: the heads settle, it is the system that the rules give,
 -- and so is the one that f answers after every prefix of the stretch
 abbrev pub SettlingOfCode : Type 0
 SettlingOfCode =
     (f : System → List ℕ → Commanded) (g : List ℕ → Scheduled) → ObeysAs f → RunsAs g
     → (bytes : List ℕ) (stretch : List (List ℕ)) (d L : ℕ) → Octets bytes → All Octets stretch
     → saidSchedule (g bytes) .refusal ≡ 0
+    → g bytes .system .clock ≡ false
     → First (g bytes .system .n) (commands bytes) L
     → Quiet d stretch (g bytes .system)
     → Settles d L stretch (g bytes .system)

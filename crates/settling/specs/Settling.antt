@@ -37,7 +37,7 @@ moments (suc t) s = s ∷ moments t (tick s)
 
 -- the ticks of an entry of the stretch, if it is accepted: those of a run
 abbrev pub ticksOf : Command → System → List System
-ticksOf (SetUp n period) s = []
+ticksOf (SetUp clock n period) s = []
 ticksOf (Start p) s = []
 ticksOf (Crash p) s = []
 ticksOf (Link p q d) s = []
@@ -63,7 +63,7 @@ dividedTicks L (s ∷ ss) = cond (divided L (tick s)) 1 0 + dividedTicks L ss
 -- an entry of the stretch is refused, or a run, a link setting, a loss or a report. A rank is refused while a head is up (RankRefusedWhileUp
 -- of the election's claims), so that none can be accepted in a stretch.
 abbrev pub Permitted : Command → Type 0
-Permitted (SetUp n period) = ⊥
+Permitted (SetUp clock n period) = ⊥
 Permitted (Start p) = ⊥
 Permitted (Crash p) = ⊥
 Permitted (Link p q d) = Unit {0}
@@ -74,7 +74,7 @@ Permitted (Rank p r) = ⊥
 
 -- a loss between two up heads finds no message
 abbrev pub LosesNone : Command → System → Type 0
-LosesNone (SetUp n period) s = Unit {0}
+LosesNone (SetUp clock n period) s = Unit {0}
 LosesNone (Start p) s = Unit {0}
 LosesNone (Crash p) s = Unit {0}
 LosesNone (Link p q d) s = Unit {0}
@@ -158,11 +158,13 @@ pub record Settles (d L : ℕ) (es : List (List ℕ)) (s : System) : Type 0 wher
   -- after every prefix of the stretch the system that Command answers is the one that the rules give
   pub answers : (k : ℕ) → answered (take k es) s ≡ given (take k es) s
 
--- Demand 3 of a leader: from the last system of an accepted schedule, which is the one that the rules give for its commands
+-- Demand 3 of a leader: from the last system of an accepted schedule, which is the one that the rules give for its commands. The bound is for
+-- flash heads.
 abbrev pub SettlingOf : (ℕ → List Command → ℕ → Type 0) → Type 0
 SettlingOf Leads =
     (bytes : List ℕ) (stretch : List (List ℕ)) (d L : ℕ)
     → schedule bytes .refusal ≡ 0
+    → schedule bytes .system .clock ≡ false
     → Leads (schedule bytes .system .n) (commands bytes) L
     → Quiet d stretch (schedule bytes .system)
     → Settles d L stretch (schedule bytes .system) × (schedule bytes .system ≡ reached (commands bytes) fresh)
