@@ -1,4 +1,4 @@
--- Where a station came from in this tick: before it heard its leader, and before its timer ended.
+-- Where a flash head came from in a tick: before it heard its leader, and before its timer ended.
 use mathlib.Core.Path.{_≡_, refl, sym, ap, _∙_}
 use mathlib.Core.Logic.{_≢_}
 use mathlib.Core.List.{List}
@@ -14,42 +14,60 @@ use Rattle.lists.proofs.Bools.{both}
 use Rattle.lists.proofs.Count.{Once, one-counted}
 use Rattle.station.specs.Order.{entry}
 use Rattle.station.specs.Rules.{waiting, other, joined, trusting, heard, expired}
-use Rattle.fit.specs.Fit.{fit, timeoutsAt}
+use Rattle.fit.specs.Fit.{ranksIn, fit, timeoutsAt}
 use Rattle.station.specs.Limits.{longest}
 use Rattle.station.specs.declared.Station.{Station}
-use Rattle.station.proofs.Candidates.{Ranked}
 use Rattle.station.proofs.Elimination.{heard-elim, expired-elim}
 use Rattle.fit.proofs.Handed.{JustSet, InTick, Ended}
-use Rattle.fit.proofs.Tests.{Ranges, Kept, Timeouts, Alive, Standing, of-fit}
+use Rattle.fit.proofs.Keeps.{set-other}
+use Rattle.fit.proofs.Tests.{Ranges, Kept, Timeouts, Alive, Standing, ranked-of, of-fit}
 use Rattle.station.proofs.Vectors.{joined-at, length-joined, zeros-at}
+use Rattle.election.proofs.Links.{zeros-in}
+use Rattle.handing.proofs.Carries.{dueNow, counts-content}
+use Rattle.handing.proofs.Origins.{FromHearing, FromTimer}
 
 -- counts joined with zeros are the counts
-pub joined-zeros : (v : List ℕ) → length v ≡ 8 → joined v (replicate 8 0) ≡ v
+joined-zeros : (v : List ℕ) → length v ≡ 8 → joined v (replicate 8 0) ≡ v
 joined-zeros v e =
     ext-getD 0 (joined v (replicate 8 0)) v (length-joined v (replicate 8 0) ∙ sym e)
     (λ i h. let z : _≡_ {A = ℕ} (getD (replicate 8 0) i 0) 0 = zeros-at i in joined-at v (replicate 8 0) i (omega (arith, length-joined v (replicate 8 0))) ∙ omega arith)
 
--- the timer was set in this tick: before, the station trusted itself
-module _ (me n period now : ℕ) (x : Station) (r : Ranges me n period) (st : Standing me n period (now - 1) x) where
-  pub earlier-fits : Kept n (x .incarnation) (x .stable) → fit me n period (now - 1) (trusting me 0 x) ≡ true
-  earlier-fits k =
+-- the timer was set in this tick: before, the station trusted itself, and hearing the leader made it what it is
+module _ (ranks : List ℕ) (me n period now : ℕ) (x : Station) (r : Ranges me n period) (ranked : ranksIn n ranks ≡ true) (st : Standing me n period (now - 1) x) where
+  itself-fits : Kept n (x .incarnation) (x .stable) → fit me n period (now - 1) (trusting me 0 x) ≡ true
+  itself-fits k =
       let l : Alive me n x = st .living in
       of-fit me n period (now - 1) (trusting me 0 x) r k
       (record {
-        living = record { up = l .up; count = l .count; leader-low = r .me-low; leader-high = r .me-high; counts = l .counts; own = l .own };
+        living = record { up = l .up; count = l .count; leader-low = r .me-low; leader-high = r .me-high; counts = l .counts; own = l .own; flash = l .flash };
         timeouts = st .timeouts;
         slot-low = st .slot-low;
         slot-high = st .slot-high;
       })
       (record { off = λ e. refl; on = λ ne. absurd (ne refl) })
 
-  -- and hearing the leader made it what it is
-  pub leader-heard : (ranks : List ℕ) → Ranked ranks → JustSet ranks me now x → length (x .recovered) ≡ 8 → heard ranks me (x .leader) (replicate 8 0) now (trusting me 0 x) ≡ x
-  leader-heard ranks ranked j e =
-      heard-elim (λ y. y ≡ x) ranks me (x .leader) now (replicate 8 0) (trusting me 0 x) (x .recovered) ranked (omega (arith, r .me-high, r .n-high)) (omega (arith, st .living .leader-high, r .n-high)) (omega (arith, r .me-high, r .n-high)) (joined-zeros (x .recovered) e)
+  leader-heard : JustSet ranks me now x → length (x .recovered) ≡ 8 → heard ranks me (x .leader) (replicate 8 0) now (trusting me 0 x) ≡ x
+  leader-heard j e =
+      heard-elim (λ y. y ≡ x) ranks me (x .leader) now (replicate 8 0) (trusting me 0 x) (x .recovered) (ranked-of n ranks ranked) (omega (arith, r .me-high, r .n-high)) (omega (arith, st .living .leader-high, r .n-high)) (omega (arith, r .me-high, r .n-high)) (joined-zeros (x .recovered) e)
       (λ a b. ap (λ t. trusting (x .leader) t x) (sym (j .ends)))
       (λ a b. absurd (omega arith))
       (λ a b. absurd (omega (arith, j .first)))
+
+  pub from-hearing : Kept n (x .incarnation) (x .stable) → JustSet ranks me now x → length (x .recovered) ≡ 8 → FromHearing false ranks me n period now x
+  from-hearing k j e =
+      record {
+        station = trusting me 0 x;
+        before = record { fit = itself-fits k; up = st .living .up };
+        counts = replicate 8 0;
+        stamp = 0;
+        coming = record {
+          low = st .living .leader-low;
+          high = st .living .leader-high;
+          other = set-other ranks me now x j;
+          content = λ sent. counts-content n period (now - 1) (dueNow now sent (replicate 8 0) 0) (zeros-in n) refl;
+        };
+        heard = λ sent. leader-heard j e;
+      }
 
 -- one timeout alone is at the highest
 timeouts-once : (high : ℕ) (t : List ℕ) → timeoutsAt high t ≡ 1 → Once 8 (λ k. eqb (getD t k 0) high)
@@ -57,7 +75,7 @@ unfolding timeoutsAt
 timeouts-once high t e = one-counted 8 (λ k. eqb (getD t k 0) high) e
 
 -- the station that trusted the station at place j, whose timer is due now and whose timeout is t
-abbrev pub unexpired : ℕ → ℕ → ℕ → Station → Station
+abbrev unexpired : ℕ → ℕ → ℕ → Station → Station
 unexpired j t now x = waiting (j + 1) now (set (x .timeouts) j t) x
 
 -- the timer ended in this tick: before, the station trusted the one whose timeout is now at the highest
@@ -66,7 +84,7 @@ module _ (me n period now : ℕ) (x : Station) (v : InTick me n period now) (l :
   once = timeouts-once (longest now) (x .timeouts) (u .one)
 
   -- its place
-  pub risen : ℕ
+  risen : ℕ
   risen = once .place
 
   risen-below : risen < 8
@@ -94,7 +112,7 @@ module _ (me n period now : ℕ) (x : Station) (v : InTick me n period now) (l :
       let (a, b) = both (ltb risen n) (not (eqb (risen + 1) me)) risen-other in
       (ltb-true risen n a, eqb-false (risen + 1) me (not-true (eqb (risen + 1) me) b))
 
-  abbrev pub earlier : Station
+  abbrev earlier : Station
   earlier = unexpired risen (longest (now - 1)) now x
 
   timeout-risen : getD (earlier .timeouts) risen 0 ≡ longest (now - 1)
@@ -120,14 +138,14 @@ module _ (me n period now : ℕ) (x : Station) (v : InTick me n period now) (l :
       rest k h o (yes e) = absurd (false≢true (sym o ∙ ap (other me n) e ∙ risen-other))
       rest k h o (no e) = timeout-others k e ∙ u .timeouts .rest k h o
 
-  pub unexpired-fits : Kept n (x .incarnation) (x .stable) → fit me n period (now - 1) earlier ≡ true
+  unexpired-fits : Kept n (x .incarnation) (x .stable) → fit me n period (now - 1) earlier ≡ true
   unexpired-fits k =
       let (below, apart) = risen-station in
       let i : risen + 1 - 1 ≡ risen = omega arith in
       let z : entry (earlier .timeouts) (risen + 1) ≡ longest (now - 1) = ap (λ i. getD (earlier .timeouts) i 0) i ∙ timeout-risen in
       of-fit me n period (now - 1) earlier (v .given) k
       (record {
-        living = record { up = l .up; count = l .count; leader-low = omega arith; leader-high = omega arith; counts = l .counts; own = l .own };
+        living = record { up = l .up; count = l .count; leader-low = omega arith; leader-high = omega arith; counts = l .counts; own = l .own; flash = l .flash };
         timeouts = earlier-timeouts;
         slot-low = omega (arith, v .tick-low);
         slot-high = omega (arith, v .tick-low);
@@ -151,9 +169,12 @@ module _ (me n period now : ℕ) (x : Station) (v : InTick me n period now) (l :
       at i (no f) = same i (λ g. f (omega arith)) ∙ timeout-others i f
 
   -- and the end of its timer made it what it is
-  pub leader-expired : expired me earlier ≡ x
+  leader-expired : expired me earlier ≡ x
   leader-expired =
       expired-elim (λ y. y ≡ x) me earlier (omega (arith, risen-below, length-earlier))
       (λ t s e same.
       let w : t ≡ x .timeouts = restored t s e same in
       λ i. waiting (sym (u .self) i) (sym (u .stopped) i) (w i) x)
+
+  pub from-timer : Kept n (x .incarnation) (x .stable) → FromTimer false me n period now x
+  from-timer k = record { station = earlier; before = record { fit = unexpired-fits k; up = l .up }; due = refl; ended = leader-expired }

@@ -1,265 +1,240 @@
--- Whatever fits is handed to the operation by some sound system of full tables.
+-- Whatever came about in a tick is handed over by some sound system of full tables, made around the station: for both kinds of head.
 use mathlib.Core.Path.{_≡_, refl, sym, ap, _∙_}
 use mathlib.Core.Logic.{_⊎_, _≢_}
 use mathlib.Core.Logic._⊎_.{inl, inr}
 use mathlib.Core.List.{List, [], _∷_, _++_}
-use mathlib.Core.Bool.{true, true≢false}
+use mathlib.Core.Bool.{Bool, true}
 use Prim.Native.Nat.{ℕ, _+_, _-_, _<_, _≤_, min}
 use native.Mathlib.Omega.{arith}
-use lib.ListN.{length, replicate}
+use lib.ListN.{length}
 use Rattle.lists.specs.Fold.{each}
-use Rattle.station.specs.Order.{entry}
-use Rattle.fit.specs.Fit.{flight, fit, fitStart, fitCrash, fitHear, fitExpire, fitSlot, longestDelay}
-use Rattle.station.specs.Limits.{longest}
-use Rattle.station.specs.Rules.{trusting, heard, expired}
+use Rattle.fit.specs.Fit.{flight, ranksIn}
+use Rattle.fit.proofs.Handed.{InTick, Before}
 use Rattle.station.specs.declared.Station.{Station}
-use Rattle.fit.proofs.Between.{start-of, crash-of}
-use Rattle.fit.proofs.Handed.{JustSet, InTick, Before, Hearing, hearing-of, Expiring, expiring-of, Unended, Ended, Slotting, slotting-of}
-use Rattle.fit.proofs.Keeps.{leader-timeout, set-other}
-use Rattle.fit.proofs.Tests.{Counts, Timer, Standing, of-counts, ranked-of, of-fit}
-use Rattle.handing.specs.Handed.{Finds, Hears, Expires, Slots, Eight, ByFull}
-use Rattle.election.specs.Heads.{byOrder}
+use Rattle.handing.specs.Handed.{Runs, Hears, Expires, Slots, Full, ByFull}
+use Rattle.election.specs.Heads.{Hearing, hearingOf, expiringOf, rankedOf}
 use Rattle.election.specs.System.{station, underway, isLink}
 use Rattle.election.specs.Tick.{heardLink, heardAll, expiredNow, settled}
 use Rattle.election.specs.declared.Message.{Message}
 use Rattle.election.specs.declared.System.{System}
-use Rattle.handing.proofs.Carries.{Adrift, Inbox, noMail, also, carries-one, carries-two, no-mail, also-mail, also-own, also-others}
-use Rattle.handing.proofs.OneSender.{hears-one, hears-nobody, hears-only, heardAll-each, timer-ends, timer-runs}
-use Rattle.handing.proofs.Earlier.{earlier-fits, leader-heard, earlier, unexpired-fits, leader-expired}
-use Rattle.election.proofs.Links.{zeros-in}
 use Rattle.election.proofs.Places.{In, is-link}
 use Rattle.election.proofs.Steps.{heard-none, settled-up}
-use Rattle.handing.proofs.Witness.{noRanks, no-ranks, eight-ranks, around, around-station, around-underway, around-full, around-finds, around-runs, inside-eight}
+use Rattle.handing.proofs.Carries.{Adrift, Carries, Inbox, dueNow, due-now, noMail, also, only, carries-one, carries-two, no-mail, also-mail, only-mail, also-own, also-others}
+use Rattle.handing.proofs.OneSender.{hears-one, hears-nobody, hears-only, heardAll-each, timer-ends, timer-runs}
+use Rattle.handing.proofs.Origins.{Coming, Prior, FromHearing, Ran, FromTimer}
+use Rattle.handing.proofs.Witness.{around, around-station, around-underway, around-full, around-runs, inside-eight}
 
-pub start-handed : (me n period tick : ℕ) (x : Station) → fitStart me n period tick x ≡ true → ByFull (Finds me n period tick x) (λ h. h .system)
-start-handed me n period tick x e = let (h, f) = start-of me n period tick x e in around-finds me n period tick x h f
+-- the values of a tick, and ranks of a full table
+pub record Given (clock : Bool) (ranks : List ℕ) (me n period now : ℕ) : Type 0 where
+  pub values : InTick me n period now
+  pub ranked : ranksIn (rankedOf clock n) ranks ≡ true
+  pub eight : length ranks ≡ 8
 
-pub crash-handed : (me n period tick : ℕ) (x : Station) → fitCrash me n period tick x ≡ true → ByFull (Finds me n period tick x × (x .up ≡ true)) (λ h. h .0 .system)
-crash-handed me n period tick x e = let (f, u) = crash-of me n period tick x e in let (h, full) = start-handed me n period tick x f in ((h, u), full)
+-- handed over by a system of full tables
+abbrev pub FullHears : (clock : Bool) (ranks : List ℕ) (me n period now q : ℕ) (v : List ℕ) (z : ℕ) (x : Station) → Type 0
+FullHears clock ranks me n period now q v z x = ByFull (Hears clock ranks me n period now q v z x) (λ h. h .system)
 
--- a message that is due now, sent some ticks before
-abbrev pub dueNow : ℕ → ℕ → List ℕ → Message
-dueNow now sent v = record { sent = sent; due = now; counts = v }
+abbrev pub FullExpires : (clock : Bool) (me n period now : ℕ) (x : Station) → Type 0
+FullExpires clock me n period now x = ByFull (Expires clock me n period now x) (λ h. h .system)
 
-pub due-now : (n period now sent : ℕ) (v : List ℕ) → 1 ≤ now → sent ≤ now - 1 → now ≤ sent + longestDelay → Counts n v → Adrift n period (now - 1) (dueNow now sent v)
-due-now n period now sent v low began soon c x d =
-    record { sent-by = began; due-after = omega arith; due-by = soon; counts = of-counts n v c; before = λ u. absurd (true≢false (sym u ∙ d)) }
+abbrev pub FullSlots : (clock : Bool) (ranks : List ℕ) (me n period now : ℕ) (x : Station) → Type 0
+FullSlots clock ranks me n period now x = ByFull (Slots clock ranks me n period now x) (λ h. h .system)
 
--- mail of q alone
-abbrev pub only : ℕ → List Message → ℕ → List Message
-only q ms = also q ms noMail
+module _ (clock : Bool) (ranks : List ℕ) (me n period now : ℕ) (g : Given clock ranks me n period now) where
+  abbrev hear : Hearing
+  hear = hearingOf clock ranks
 
--- the leader's message, with counts that say nothing
-abbrev leaderMail : ℕ → Station → ℕ → List Message
-leaderMail now x = only (x .leader) (dueNow now (now - 1) (replicate 8 0) ∷ [])
-
-module _ (me n period now : ℕ) (v : InTick me n period now) where
   hm : In 8 me
-  hm = inside-eight me n period (v .given)
+  hm = inside-eight me n period (g .values .given)
 
-  link-here : (q : ℕ) → 1 ≤ q → q ≤ n → q ≢ me → isLink n q me ≡ true
-  link-here q low high ne = is-link n q me (record { low = low; high = high }) (record { low = v .given .me-low; high = v .given .me-high }) ne
+  -- the system around a station at the end of the tick before
+  abbrev made : Station → (ℕ → List Message) → System
+  made y mail = around clock ranks me n period (now - 1) y mail
 
-module _ (ranks : List ℕ) (me n period now : ℕ) (v : InTick me n period now) where
+  made-station : (y : Station) (mail : ℕ → List Message) → station (made y mail) me ≡ y
+  made-station y mail = around-station clock ranks me n period (now - 1) y mail hm
+
+  made-runs : (y : Station) (mail : ℕ → List Message) → Prior clock me n period now y → Inbox clock me n period (now - 1) mail → Runs clock me n period now (made y mail)
+  made-runs y mail b m = around-runs clock ranks me n period now y mail (g .values .tick-low) (g .values .tick-high) (g .ranked) (b .fit) (b .up) m
+
+  made-full : (y : Station) (mail : ℕ → List Message) → Inbox clock me n period (now - 1) mail → Full (made y mail)
+  made-full y mail m = around-full clock ranks me n period (now - 1) y mail (g .eight) (λ p. m .carried p .few)
+
+  -- a message that may come
+  module _ (q : ℕ) (v : List ℕ) (z : ℕ) (c : Coming clock me n period now q v z) where
+    from-link : isLink n q me ≡ true
+    from-link = is-link n q me (record { low = c .low; high = c .high }) (record { low = g .values .given .me-low; high = g .values .given .me-high }) (c .other)
+
+    -- sent in the tick before
+    abbrev youngest : Message
+    youngest = dueNow now (now - 1) v z
+
+    youngest-adrift : Adrift clock n period (now - 1) youngest
+    youngest-adrift = due-now clock n period now (now - 1) v z (g .values .tick-low) (omega arith) (omega (arith, g .values .tick-low)) (c .content (now - 1))
+
+    youngest-carried : Carries clock n period (now - 1) (youngest ∷ [])
+    youngest-carried = carries-one clock n period (now - 1) youngest youngest-adrift
+
+    youngest-only : Inbox clock me n period (now - 1) (only q (youngest ∷ []))
+    youngest-only = only-mail clock me n period (now - 1) q (youngest ∷ []) from-link youngest-carried
+
+  -- the station after (a)
+  abbrev heardIn : Station → (ℕ → List Message) → Station
+  heardIn y mail = heardAll hear n me now (λ q. underway (made y mail) q me) (station (made y mail) me)
+
   -- nothing comes
-  quiet : (x : Station) → heardAll (byOrder ranks) n me now (λ q. underway (around ranks me n period (now - 1) x noMail) q me) (station (around ranks me n period (now - 1) x noMail) me) ≡ x
-  quiet x =
-      heardAll-each (byOrder ranks) n me now (λ q. underway (around ranks me n period (now - 1) x noMail) q me) (station (around ranks me n period (now - 1) x noMail) me)
-      ∙ hears-nobody (byOrder ranks) ranks me n period (now - 1) now x noMail (hm me n period now v) n (v .given .n-high) (station (around ranks me n period (now - 1) x noMail) me) (λ p h. refl)
-      ∙ around-station ranks me n period (now - 1) x noMail (hm me n period now v)
+  quiet : (y : Station) → heardIn y noMail ≡ y
+  quiet y =
+      heardAll-each hear n me now (λ q. underway (made y noMail) q me) (station (made y noMail) me)
+      ∙ hears-nobody clock ranks me n period (now - 1) now y noMail hm n (g .values .given .n-high) (station (made y noMail) me) (λ p h. refl)
+      ∙ made-station y noMail
 
-  -- after (a) and (b)
-  settled-now : (x y : Station) (mail : ℕ → List Message) → x .up ≡ true → heardAll (byOrder ranks) n me now (λ q. underway (around ranks me n period (now - 1) x mail) q me) (station (around ranks me n period (now - 1) x mail) me) ≡ y → settled (around ranks me n period (now - 1) x mail) me ≡ expiredNow (expired me) now y
+  -- and after (b)
+  settled-now : (x y : Station) (mail : ℕ → List Message) → y .up ≡ true → heardIn y mail ≡ x → settled (made y mail) me ≡ expiredNow (expiringOf clock me) now x
   settled-now x y mail u h =
-      let e : now - 1 + 1 ≡ now = omega (arith, v .tick-low) in
-      let s : System = around ranks me n period (now - 1) x mail in
-      settled-up s me (ap (λ z. z .up) (around-station ranks me n period (now - 1) x mail (hm me n period now v)) ∙ u)
-      ∙ ap (λ t. expiredNow (expired me) t (heardAll (byOrder ranks) n me t (λ q. underway s q me) (station s me))) e
-      ∙ ap (expiredNow (expired me) now) h
+      let e : now - 1 + 1 ≡ now = omega (arith, g .values .tick-low) in
+      let s : System = made y mail in
+      settled-up s me (ap (λ z. z .up) (made-station y mail) ∙ u)
+      ∙ ap (λ t. expiredNow (expiringOf clock me) t (heardAll hear n me t (λ q. underway s q me) (station s me))) e
+      ∙ ap (expiredNow (expiringOf clock me) now) h
 
--- the leader's mail may be under way
-leader-mail : (ranks : List ℕ) (me n period now : ℕ) (x : Station) → InTick me n period now → Standing me n period (now - 1) x → JustSet ranks me now x → Inbox me n period (now - 1) (leaderMail now x)
-leader-mail ranks me n period now x v st j =
-    let o : Message = dueNow now (now - 1) (replicate 8 0) in
-    also-mail me n period (now - 1) (x .leader) (o ∷ []) noMail
-    (link-here me n period now v (x .leader) (st .living .leader-low) (st .living .leader-high) (set-other ranks me now x j))
-    (carries-one n period (now - 1) o (due-now n period now (now - 1) (replicate 8 0) (v .tick-low) (omega arith) (omega (arith, v .tick-low)) (zeros-in n)))
-    (no-mail me n period (now - 1))
+  -- (b): a timer is due
+  pub expires-handed : (x : Station) → Prior clock me n period now x → x .timer ≡ now → FullExpires clock me n period now x
+  expires-handed x b due = (
+    record {
+      system = made x noMail;
+      runs = made-runs x noMail b (no-mail clock me n period (now - 1));
+      is-station = quiet x;
+      is-due = due;
+    },
+    made-full x noMail (no-mail clock me n period (now - 1)),
+  )
 
-pub expire-handed : (me n period now : ℕ) (x : Station) → fitExpire me n period now x ≡ true → ByFull (Expires me n period now x) (λ h. h .system)
-expire-handed me n period now x e =
-    let d : Expiring me n period now x = expiring-of me n period now x e in (
+  -- (c): a send chance is due
+  module _ (x : Station) (due : x .slot ≡ now) where
+    slots-by : (y : Station) (mail : ℕ → List Message) → Inbox clock me n period (now - 1) mail → Prior clock me n period now y → settled (made y mail) me ≡ x → FullSlots clock ranks me n period now x
+    slots-by y mail m b s = (
       record {
-        system = around noRanks me n period (now - 1) x noMail;
-        runs = around-runs noRanks me n period now x noMail (d .values .tick-low) (d .values .tick-high) (no-ranks n) (of-fit me n period (now - 1) x (d .values .given) (d .kept) (d .stands) (d .timer)) (d .stands .living .up) (no-mail me n period (now - 1));
-        is-station = quiet noRanks me n period now (d .values) x;
-        is-due = d .now;
+        system = made y mail;
+        runs = made-runs y mail b m;
+        same-ranks = refl;
+        is-station = s;
+        is-due = due;
       },
-      around-full noRanks me n period (now - 1) x noMail eight-ranks (λ p. omega arith),
+      made-full y mail m,
     )
 
-abbrev FullHears : (ranks : List ℕ) (me n period now q : ℕ) (v : List ℕ) (x : Station) → Type 0
-FullHears ranks me n period now q v x = ByFull (Hears ranks me n period now q v x) (λ h. h .system)
-
-module _ (ranks : List ℕ) (me n period now q : ℕ) (v : List ℕ) (x : Station) (eight : length ranks ≡ 8) (h : Hearing ranks me n period now q v x) where
-  abbrev youngest : Message
-  youngest = dueNow now (now - 1) v
-
-  youngest-due : Adrift n period (now - 1) youngest
-  youngest-due = due-now n period now (now - 1) v (h .values .tick-low) (omega arith) (omega (arith, h .values .tick-low)) (h .message .counts)
-
-  from-q : isLink n q me ≡ true
-  from-q = link-here me n period now (h .values) q (h .message .low) (h .message .high) (h .message .other)
-
-  -- after the senders below q, in the system around y
-  abbrev heardLower : Station → (ℕ → List Message) → Station → Station
-  heardLower y mail z = each (q - 1) (λ k. heardLink (byOrder ranks) me (k + 1) now (underway (around ranks me n period (now - 1) y mail) (k + 1) me)) z
-
-  -- handed by the system around an earlier station
-  handed-by : (y : Station) (mail : ℕ → List Message) (older : List Message) → Inbox me n period (now - 1) mail → fit me n period (now - 1) y ≡ true → y .up ≡ true → mail q ≡ older ++ (youngest ∷ []) → heardLink (byOrder ranks) me q now older (heardLower y mail y) ≡ x → FullHears ranks me n period now q v x
-  handed-by y mail older m f u e s = (
-    record {
-      system = around ranks me n period (now - 1) y mail;
-      runs = around-runs ranks me n period now y mail (h .values .tick-low) (h .values .tick-high) (h .ranked) f u m;
-      same-ranks = refl;
-      sender-low = h .message .low;
-      sender-high = h .message .high;
-      other = h .message .other;
-      older = older;
-      message = youngest;
-      younger = [];
-      is-mail = around-underway ranks me n period (now - 1) y mail q (record { low = h .message .low; high = omega (arith, h .message .high, h .values .given .n-high) }) (hm me n period now (h .values)) ∙ e;
-      is-due = refl;
-      is-counts = refl;
-      is-station = ap (λ z. heardLink (byOrder ranks) me q now older (heardLower y mail z)) (around-station ranks me n period (now - 1) y mail (hm me n period now (h .values))) ∙ s;
-    },
-    around-full ranks me n period (now - 1) y mail eight (λ p. m .carried p .few),
-  )
-
-  -- where nothing was heard before
-  hears-first : Timer me (now - 1) x → FullHears ranks me n period now q v x
-  hears-first t =
-      let mail : ℕ → List Message = only q (youngest ∷ []) in
-      let m : Inbox me n period (now - 1) mail = also-mail me n period (now - 1) q (youngest ∷ []) noMail from-q (carries-one n period (now - 1) youngest youngest-due) (no-mail me n period (now - 1)) in
-      handed-by x mail [] m
-      (of-fit me n period (now - 1) x (h .values .given) (h .kept) (h .stands) t)
-      (h .stands .living .up)
-      (also-own q (youngest ∷ []) noMail)
-      (heard-none (byOrder ranks) me q now [] (heardLower x mail x) refl
-      ∙ hears-nobody (byOrder ranks) ranks me n period (now - 1) now x mail (hm me n period now (h .values)) (q - 1) (omega (arith, h .message .high, h .values .given .n-high)) x (λ p i. also-others q (youngest ∷ []) noMail p (λ e. omega (arith, h .message .low))))
-
-  module _ (l : Eight x) (j : JustSet ranks me now x) where
-    abbrev earlierFits : fit me n period (now - 1) (trusting me 0 x) ≡ true
-    earlierFits = earlier-fits me n period now x (h .values .given) (h .stands) (h .kept)
-
-    -- where the leader is a lower sender
-    hears-after-lower : x .leader < q → FullHears ranks me n period now q v x
-    hears-after-lower b =
-        let y : Station = trusting me 0 x in
-        let o : Message = dueNow now (now - 1) (replicate 8 0) in
-        let mail : ℕ → List Message = also q (youngest ∷ []) (leaderMail now x) in
-        let w : Inbox me n period (now - 1) (leaderMail now x) = leader-mail ranks me n period now x (h .values) (h .stands) j in
-        let m : Inbox me n period (now - 1) mail = also-mail me n period (now - 1) q (youngest ∷ []) (leaderMail now x) from-q (carries-one n period (now - 1) youngest youngest-due) w in
-        handed-by y mail [] m earlierFits (h .stands .living .up)
-        (also-own q (youngest ∷ []) (leaderMail now x))
-        (heard-none (byOrder ranks) me q now [] (heardLower y mail y) refl
-        ∙ hears-only (byOrder ranks) ranks me n period (now - 1) now y mail (hm me n period now (h .values)) (q - 1) (omega (arith, h .message .high, h .values .given .n-high)) y (x .leader) (h .stands .living .leader-low) (omega arith)
-        (λ p i ne. also-others q (youngest ∷ []) (leaderMail now x) p (λ e. omega (arith, h .message .low)) ∙ also-others (x .leader) (o ∷ []) noMail p ne)
-        ∙ ap (λ ms. heardLink (byOrder ranks) me (x .leader) now ms y) (also-others q (youngest ∷ []) (leaderMail now x) (x .leader) (λ e. omega arith) ∙ also-own (x .leader) (o ∷ []) noMail)
-        ∙ hears-one (byOrder ranks) me (x .leader) now y o refl
-        ∙ leader-heard me n period now x (h .values .given) (h .stands) ranks (ranked-of n ranks (h .ranked)) j (l .counts))
-
-    -- where it is q, with an older message
-    hears-after-own : x .leader ≡ q → period ≤ min (now - 1) flight → FullHears ranks me n period now q v x
-    hears-after-own e b =
-        let y : Station = trusting me 0 x in
-        let o : Message = dueNow now (now - 1 - period) (replicate 8 0) in
-        let ms : List Message = o ∷ youngest ∷ [] in
-        let u : Adrift n period (now - 1) o = due-now n period now (now - 1 - period) (replicate 8 0) (h .values .tick-low) (omega arith) (omega arith) (zeros-in n) in
-        let m : Inbox me n period (now - 1) (only q ms) = also-mail me n period (now - 1) q ms noMail from-q (carries-two n period (now - 1) o youngest u youngest-due (omega arith)) (no-mail me n period (now - 1)) in
-        handed-by y (only q ms) (o ∷ []) m earlierFits (h .stands .living .up)
-        (also-own q ms noMail)
-        (ap (heardLink (byOrder ranks) me q now (o ∷ []))
-        (hears-nobody (byOrder ranks) ranks me n period (now - 1) now y (only q ms) (hm me n period now (h .values)) (q - 1) (omega (arith, h .message .high, h .values .given .n-high)) y (λ p i. also-others q ms noMail p (λ e. omega (arith, h .message .low))))
-        ∙ hears-one (byOrder ranks) me q now y o refl
-        ∙ ap (λ p. heard ranks me p (replicate 8 0) now y) (sym e)
-        ∙ leader-heard me n period now x (h .values .given) (h .stands) ranks (ranked-of n ranks (h .ranked)) j (l .counts))
-
-pub hear-handed : (ranks : List ℕ) (me n period now q : ℕ) (v : List ℕ) (x : Station) → length ranks ≡ 8 → Eight x → fitHear ranks me n period now q v x ≡ true → FullHears ranks me n period now q v x
-hear-handed ranks me n period now q v x eight l e = let h : Hearing ranks me n period now q v x = hearing-of ranks me n period now q v x e in go h (h .timer)
-  where
-    go : Hearing ranks me n period now q v x → Timer me (now - 1) x ⊎ (JustSet ranks me now x × Before period now q x) → FullHears ranks me n period now q v x
-    go h (inl t) = hears-first ranks me n period now q v x eight h t
-    go h (inr (j, inl b)) = hears-after-lower ranks me n period now q v x eight h l j b
-    go h (inr (j, inr b)) = hears-after-own ranks me n period now q v x eight h l j (b .0) (b .1)
-
-abbrev FullSlots : (ranks : List ℕ) (me n period now : ℕ) (x : Station) → Type 0
-FullSlots ranks me n period now x = ByFull (Slots ranks me n period now x) (λ h. h .system)
-
-module _ (ranks : List ℕ) (me n period now : ℕ) (x : Station) (eight : length ranks ≡ 8) (d : Slotting ranks me n period now x) where
-  -- by the system around an earlier station
-  slots-by : (y : Station) (mail : ℕ → List Message) → Inbox me n period (now - 1) mail → fit me n period (now - 1) y ≡ true → y .up ≡ true → settled (around ranks me n period (now - 1) y mail) me ≡ x → FullSlots ranks me n period now x
-  slots-by y mail m f u s = (
-    record {
-      system = around ranks me n period (now - 1) y mail;
-      runs = around-runs ranks me n period now y mail (d .values .tick-low) (d .values .tick-high) (d .ranked) f u m;
-      same-ranks = refl;
-      is-station = s;
-      is-due = d .now;
-    },
-    around-full ranks me n period (now - 1) y mail eight (λ p. m .carried p .few),
-  )
-
-  module _ (u : Unended ranks me n period now x) where
-    stands : Standing me n period (now - 1) x
-    stands = record { living = d .living; timeouts = u .timeouts; slot-low = omega (arith, d .now, d .values .tick-low); slot-high = omega (arith, d .now, d .values .given .period-low) }
-
     -- nothing was heard, and the timer does not end
-    slots-quiet : Timer me (now - 1) x → x .timer ≢ now → FullSlots ranks me n period now x
-    slots-quiet t ne =
-        slots-by x noMail (no-mail me n period (now - 1))
-        (of-fit me n period (now - 1) x (d .values .given) (d .kept) stands t)
-        (d .living .up)
-        (settled-now ranks me n period now (d .values) x x noMail (d .living .up) (quiet ranks me n period now (d .values) x) ∙ timer-runs (expired me) now x ne)
+    slots-quiet : Prior clock me n period now x → x .timer ≢ now → FullSlots clock ranks me n period now x
+    slots-quiet b ne =
+        slots-by x noMail (no-mail clock me n period (now - 1)) b
+        (settled-now x x noMail (b .up) (quiet x) ∙ timer-runs (expiringOf clock me) now x ne)
 
     -- the leader was heard
-    slots-heard : Eight x → JustSet ranks me now x → FullSlots ranks me n period now x
-    slots-heard l j =
-        let y : Station = trusting me 0 x in
-        let o : Message = dueNow now (now - 1) (replicate 8 0) in
-        let m : Inbox me n period (now - 1) (leaderMail now x) = leader-mail ranks me n period now x (d .values) stands j in
-        let s : System = around ranks me n period (now - 1) y (leaderMail now x) in
-        let t : (period ≤ entry (x .timeouts) (x .leader)) × (entry (x .timeouts) (x .leader) ≤ longest (now - 1)) = leader-timeout me n period (longest (now - 1)) x (d .values .given) (d .living) (u .timeouts) (set-other ranks me now x j) in
-        slots-by y (leaderMail now x) m
-        (earlier-fits me n period now x (d .values .given) stands (d .kept))
-        (d .living .up)
-        (settled-now ranks me n period now (d .values) y x (leaderMail now x) (d .living .up)
-        (heardAll-each (byOrder ranks) n me now (λ q. underway s q me) (station s me)
-        ∙ hears-only (byOrder ranks) ranks me n period (now - 1) now y (leaderMail now x) (hm me n period now (d .values)) n (d .values .given .n-high) (station s me) (x .leader) (d .living .leader-low) (d .living .leader-high) (λ p i ne. also-others (x .leader) (o ∷ []) noMail p ne)
-        ∙ ap (λ ms. heardLink (byOrder ranks) me (x .leader) now ms (station s me)) (also-own (x .leader) (o ∷ []) noMail)
-        ∙ ap (heardLink (byOrder ranks) me (x .leader) now (o ∷ [])) (around-station ranks me n period (now - 1) y (leaderMail now x) (hm me n period now (d .values)))
-        ∙ hears-one (byOrder ranks) me (x .leader) now y o refl
-        ∙ leader-heard me n period now x (d .values .given) stands ranks (ranked-of n ranks (d .ranked)) j (l .counts))
-        ∙ timer-runs (expired me) now x (λ e. omega (arith, j .ends, t .0, d .values .given .period-low)))
+    slots-heard : FromHearing clock ranks me n period now x → x .timer ≢ now → FullSlots clock ranks me n period now x
+    slots-heard f ne =
+        let y : Station = f .station in
+        let o : Message = youngest (x .leader) (f .counts) (f .stamp) (f .coming) in
+        let mail : ℕ → List Message = only (x .leader) (o ∷ []) in
+        let s : System = made y mail in
+        slots-by y mail (youngest-only (x .leader) (f .counts) (f .stamp) (f .coming)) (f .before)
+        (settled-now x y mail (f .before .up)
+        (heardAll-each hear n me now (λ q. underway s q me) (station s me)
+        ∙ hears-only clock ranks me n period (now - 1) now y mail hm n (g .values .given .n-high) (station s me) (x .leader) (f .coming .low) (f .coming .high) (λ p i ne. also-others (x .leader) (o ∷ []) noMail p ne)
+        ∙ ap (λ ms. heardLink hear me (x .leader) now ms (station s me)) (also-own (x .leader) (o ∷ []) noMail)
+        ∙ ap (heardLink hear me (x .leader) now (o ∷ [])) (made-station y mail)
+        ∙ hears-one hear me (x .leader) now y o refl
+        ∙ f .heard (now - 1))
+        ∙ timer-runs (expiringOf clock me) now x ne)
 
-  -- the timer ended
-  slots-ended : Eight x → Ended me n period now x → FullSlots ranks me n period now x
-  slots-ended l u =
-      let y : Station = earlier me n period now x (d .values) (d .living) (d .now) u (l .timeouts) in
-      slots-by y noMail (no-mail me n period (now - 1))
-      (unexpired-fits me n period now x (d .values) (d .living) (d .now) u (l .timeouts) (d .kept))
-      (d .living .up)
-      (settled-now ranks me n period now (d .values) y y noMail (d .living .up) (quiet ranks me n period now (d .values) y)
-      ∙ timer-ends (expired me) now y refl
-      ∙ leader-expired me n period now x (d .values) (d .living) (d .now) u (l .timeouts))
+    -- the timer ended
+    slots-ended : FromTimer clock me n period now x → FullSlots clock ranks me n period now x
+    slots-ended f =
+        let y : Station = f .station in
+        slots-by y noMail (no-mail clock me n period (now - 1)) (f .before)
+        (settled-now y y noMail (f .before .up) (quiet y) ∙ timer-ends (expiringOf clock me) now y (f .due) ∙ f .ended)
 
-pub slot-handed : (ranks : List ℕ) (me n period now : ℕ) (x : Station) → length ranks ≡ 8 → Eight x → fitSlot ranks me n period now x ≡ true → FullSlots ranks me n period now x
-slot-handed ranks me n period now x eight l e = let d : Slotting ranks me n period now x = slotting-of ranks me n period now x e in go d (d .timer)
-  where
-    go : Slotting ranks me n period now x → Unended ranks me n period now x ⊎ Ended me n period now x → FullSlots ranks me n period now x
-    go d (inl u) = at (u .timer)
-      where
-        at : (Timer me (now - 1) x × (x .timer ≢ now)) ⊎ JustSet ranks me now x → FullSlots ranks me n period now x
-        at (inl t) = slots-quiet ranks me n period now x eight d u (t .0) (t .1)
-        at (inr j) = slots-heard ranks me n period now x eight d u l j
-    go d (inr u) = slots-ended ranks me n period now x eight d l u
+    -- as one of these it is handed over
+    pub slots-handed : Ran clock ranks me n period now x ⊎ FromTimer clock me n period now x → FullSlots clock ranks me n period now x
+    slots-handed (inl (inl b, ne)) = slots-quiet b ne
+    slots-handed (inl (inr f, ne)) = slots-heard f ne
+    slots-handed (inr f) = slots-ended f
+
+  -- (a): a message of q comes
+  module _ (q : ℕ) (v : List ℕ) (z : ℕ) (c : Coming clock me n period now q v z) (x : Station) where
+    abbrev m : Message
+    m = youngest q v z c
+
+    -- the senders below q are among the eight
+    lower : q - 1 ≤ 8
+    lower = omega (arith, c .high, g .values .given .n-high)
+
+    -- the station after them, in the system around y
+    abbrev heardLower : Station → (ℕ → List Message) → Station → Station
+    heardLower y mail r = each (q - 1) (λ k. heardLink hear me (k + 1) now (underway (made y mail) (k + 1) me)) r
+
+    hears-by : (y : Station) (mail : ℕ → List Message) (older : List Message) → Inbox clock me n period (now - 1) mail → Prior clock me n period now y → mail q ≡ older ++ (m ∷ []) → heardLink hear me q now older (heardLower y mail y) ≡ x → FullHears clock ranks me n period now q v z x
+    hears-by y mail older i b e s = (
+      record {
+        system = made y mail;
+        runs = made-runs y mail b i;
+        same-ranks = refl;
+        sender-low = c .low;
+        sender-high = c .high;
+        other = c .other;
+        older = older;
+        message = m;
+        younger = [];
+        is-mail = around-underway clock ranks me n period (now - 1) y mail q (record { low = c .low; high = omega (arith, c .high, g .values .given .n-high) }) hm ∙ e;
+        is-due = refl;
+        is-counts = refl;
+        is-stamp = refl;
+        is-station = ap (λ r. heardLink hear me q now older (heardLower y mail r)) (made-station y mail) ∙ s;
+      },
+      made-full y mail i,
+    )
+
+    -- nothing was heard before
+    hears-first : Prior clock me n period now x → FullHears clock ranks me n period now q v z x
+    hears-first b =
+        let mail : ℕ → List Message = only q (m ∷ []) in
+        hears-by x mail [] (youngest-only q v z c) b
+        (also-own q (m ∷ []) noMail)
+        (heard-none hear me q now [] (heardLower x mail x) refl
+        ∙ hears-nobody clock ranks me n period (now - 1) now x mail hm (q - 1) lower x (λ p i. also-others q (m ∷ []) noMail p (λ e. omega (arith, c .low))))
+
+    -- the leader was heard, a lower sender
+    hears-after-lower : FromHearing clock ranks me n period now x → x .leader < q → FullHears clock ranks me n period now q v z x
+    hears-after-lower f b =
+        let y : Station = f .station in
+        let o : Message = youngest (x .leader) (f .counts) (f .stamp) (f .coming) in
+        let leaders : ℕ → List Message = only (x .leader) (o ∷ []) in
+        let mail : ℕ → List Message = also q (m ∷ []) leaders in
+        hears-by y mail [] (also-mail clock me n period (now - 1) q (m ∷ []) leaders (from-link q v z c) (youngest-carried q v z c) (youngest-only (x .leader) (f .counts) (f .stamp) (f .coming))) (f .before)
+        (also-own q (m ∷ []) leaders)
+        (heard-none hear me q now [] (heardLower y mail y) refl
+        ∙ hears-only clock ranks me n period (now - 1) now y mail hm (q - 1) lower y (x .leader) (f .coming .low) (omega arith)
+        (λ p i ne. also-others q (m ∷ []) leaders p (λ e. omega (arith, c .low)) ∙ also-others (x .leader) (o ∷ []) noMail p ne)
+        ∙ ap (λ ms. heardLink hear me (x .leader) now ms y) (also-others q (m ∷ []) leaders (x .leader) (λ e. omega arith) ∙ also-own (x .leader) (o ∷ []) noMail)
+        ∙ hears-one hear me (x .leader) now y o refl
+        ∙ f .heard (now - 1))
+
+    -- it is q, with an older message
+    hears-after-own : FromHearing clock ranks me n period now x → x .leader ≡ q → period ≤ min (now - 1) flight → FullHears clock ranks me n period now q v z x
+    hears-after-own f e b =
+        let y : Station = f .station in
+        let o : Message = dueNow now (now - 1 - period) (f .counts) (f .stamp) in
+        let ms : List Message = o ∷ m ∷ [] in
+        let u : Adrift clock n period (now - 1) o = due-now clock n period now (now - 1 - period) (f .counts) (f .stamp) (g .values .tick-low) (omega arith) (omega arith) (f .coming .content (now - 1 - period)) in
+        hears-by y (only q ms) (o ∷ []) (only-mail clock me n period (now - 1) q ms (from-link q v z c) (carries-two clock n period (now - 1) o m u (youngest-adrift q v z c) (omega arith))) (f .before)
+        (also-own q ms noMail)
+        (ap (heardLink hear me q now (o ∷ [])) (hears-nobody clock ranks me n period (now - 1) now y (only q ms) hm (q - 1) lower y (λ p i. also-others q ms noMail p (λ e. omega (arith, c .low))))
+        ∙ hears-one hear me q now y o refl
+        ∙ ap (λ p. hear me p o now y) (sym e)
+        ∙ f .heard (now - 1 - period))
+
+    -- as one of these it is handed over
+    pub hears-handed : Prior clock me n period now x ⊎ (FromHearing clock ranks me n period now x × Before period now q x) → FullHears clock ranks me n period now q v z x
+    hears-handed (inl b) = hears-first b
+    hears-handed (inr (f, inl b)) = hears-after-lower f b
+    hears-handed (inr (f, inr b)) = hears-after-own f (b .0) (b .1)

@@ -2,14 +2,14 @@
 use mathlib.Core.Path.{_≡_, refl, ap, _∙_}
 use mathlib.Core.Logic.{_≢_}
 use mathlib.Core.List.{List, [], _∷_}
-use mathlib.Core.Bool.{cond}
+use mathlib.Core.Bool.{Bool, cond}
 use Prim.Native.Nat.{ℕ, _+_, _-_, _<_, _≤_}
 use native.Mathlib.Omega.{arith}
 use borrow.Author.Tests.{eq-eqb}
 use Rattle.lists.specs.Fold.{each}
 use Rattle.lists.proofs.Fold.{each-idle, each-once}
 use Rattle.station.specs.declared.Station.{Station}
-use Rattle.election.specs.Heads.{Hearing}
+use Rattle.election.specs.Heads.{Hearing, hearingOf}
 use Rattle.election.specs.System.{underway}
 use Rattle.election.specs.Tick.{heardLink, heardAll, expiredNow}
 use Rattle.election.specs.declared.Message.{Message}
@@ -23,12 +23,15 @@ unfolding heardLink
 hears-one hear me q now x m e = ap (λ b. cond b (hear me q m now x) x) (eq-eqb (m .due) now e)
 
 -- the first j senders, in a system made around station me
-module _ (hear : Hearing) (ranks : List ℕ) (me n period tick now : ℕ) (x : Station) (mail : ℕ → List Message) (hm : In 8 me) (j : ℕ) (hj : j ≤ 8) (y : Station) where
+module _ (clock : Bool) (ranks : List ℕ) (me n period tick now : ℕ) (x : Station) (mail : ℕ → List Message) (hm : In 8 me) (j : ℕ) (hj : j ≤ 8) (y : Station) where
+  abbrev hear : Hearing
+  hear = hearingOf clock ranks
+
   abbrev pub hearFrom : ℕ → Station → Station
-  hearFrom k r = heardLink hear me (k + 1) now (underway (around ranks me n period tick x mail) (k + 1) me) r
+  hearFrom k r = heardLink (hearingOf clock ranks) me (k + 1) now (underway (around clock ranks me n period tick x mail) (k + 1) me) r
 
   step-mail : (k : ℕ) → k < j → (r : Station) → hearFrom k r ≡ heardLink hear me (k + 1) now (mail (k + 1)) r
-  step-mail k h r = ap (λ ms. heardLink hear me (k + 1) now ms r) (around-underway ranks me n period tick x mail (k + 1) (seat-in 8 k (omega arith)) hm)
+  step-mail k h r = ap (λ ms. heardLink hear me (k + 1) now ms r) (around-underway clock ranks me n period tick x mail (k + 1) (seat-in 8 k (omega arith)) hm)
 
   step-idle : (k : ℕ) → k < j → (r : Station) → mail (k + 1) ≡ [] → hearFrom k r ≡ r
   step-idle k h r e = step-mail k h r ∙ heard-none hear me (k + 1) now (mail (k + 1)) r e
@@ -38,7 +41,7 @@ module _ (hear : Hearing) (ranks : List ℕ) (me n period tick now : ℕ) (x : S
   hears-nobody none = each-idle j hearFrom y (λ k r h. step-idle k h r (none (k + 1) (omega arith)))
 
   -- sender q alone has
-  pub hears-only : (q : ℕ) → 1 ≤ q → q ≤ j → ((p : ℕ) → p ≤ j → p ≢ q → mail p ≡ []) → each j hearFrom y ≡ heardLink hear me q now (mail q) y
+  pub hears-only : (q : ℕ) → 1 ≤ q → q ≤ j → ((p : ℕ) → p ≤ j → p ≢ q → mail p ≡ []) → each j hearFrom y ≡ heardLink (hearingOf clock ranks) me q now (mail q) y
   hears-only q low high none =
       let e : q - 1 + 1 ≡ q = omega arith in
       each-once j (q - 1) hearFrom y (omega arith) (λ k r h ne. step-idle k h r (none (k + 1) (omega arith) (λ i. ne (omega arith))))

@@ -2,7 +2,7 @@
 use mathlib.Core.Path.{_≡_, refl, sym, ap, _∙_}
 use mathlib.Core.Logic.{_≢_}
 use mathlib.Core.List.{List, []}
-use mathlib.Core.Bool.{true, false, cond}
+use mathlib.Core.Bool.{Bool, true, false, cond}
 use Prim.Native.Nat.{ℕ, _+_, _-_, _<_, _≤_}
 use native.Mathlib.Decide.{ℕ-discrete}
 use native.Mathlib.Omega.{arith}
@@ -12,17 +12,18 @@ use borrow.Author.Tests.{lt-ltb, le-ltb, eq-eqb, ne-eqb}
 use Rattle.lists.specs.Entries.{upTo}
 use Rattle.lists.proofs.Entries.{length-upTo, length-over, getD-upTo}
 use Rattle.lists.proofs.Bools.{cond-elim}
-use Rattle.fit.specs.Fit.{ranksIn, fit, longestDelay}
+use Rattle.fit.specs.Fit.{ranksIn, longestDelay}
 use Rattle.station.specs.declared.Station.{Station}
-use Rattle.fit.proofs.Down.{down-fits}
-use Rattle.fit.proofs.Tests.{Ranges, of-ranks, fit-ranges}
+use Rattle.fit.proofs.Tests.{Ranges, of-ranks}
 use Rattle.station.proofs.Vectors.{zeros-at}
 use Rattle.handing.specs.Handed.{Holds, Finds, Runs, Full, ByFull}
+use Rattle.election.specs.Heads.{fits, rankedOf}
 use Rattle.election.specs.Sound.{emptyPlace, emptySeat, sound}
 use Rattle.election.specs.System.{noStation, noLink, station, place, from, to, delay, messages, holding, underway, unused, isLink, unstarted, places}
 use Rattle.election.specs.declared.Message.{Message}
 use Rattle.election.specs.declared.System.{System}
 use Rattle.handing.proofs.Carries.{Inbox, noMail, no-mail}
+use Rattle.election.proofs.Heads.{fits-ranges, unstarted-fits}
 use Rattle.election.proofs.InitialSound.{empty-linked, empty-place, empty-seat}
 use Rattle.election.proofs.Links.{Linked, holding-linked}
 use Rattle.election.proofs.Places.{In, place-in, widen, at-link, messages-held}
@@ -36,8 +37,8 @@ stood me n x p = cond (eqb p me) x (unstarted (cond (ltb (p - 1) n) p 0))
 abbrev mailed : ℕ → (ℕ → List Message) → ℕ → ℕ → List Message
 mailed me mail p q = cond (eqb q me) (mail p) []
 
-abbrev pub around : (ranks : List ℕ) (me n period tick : ℕ) (x : Station) (mail : ℕ → List Message) → System
-around ranks me n period tick x mail =
+abbrev pub around : (clock : Bool) (ranks : List ℕ) (me n period tick : ℕ) (x : Station) (mail : ℕ → List Message) → System
+around clock ranks me n period tick x mail =
     record {
       ready = true;
       n = n;
@@ -48,6 +49,7 @@ around ranks me n period tick x mail =
       delays = replicate 64 0;
       links = upTo 64 (λ k. holding (mailed me mail (from k) (to k)));
       ranks = ranks;
+      clock = clock;
     }
 
 -- a link that holds messages has all its places
@@ -55,24 +57,24 @@ length-holding : (ms : List Message) → length ms ≤ places → length (holdin
 unfolding holding
 length-holding ms few = let e : length (replicate places unused) ≡ places = length-replicate places unused in length-over ms (replicate places unused) (omega arith) ∙ e
 
-module _ (ranks : List ℕ) (me n period tick : ℕ) (x : Station) (mail : ℕ → List Message) where
-  around-at : (p : ℕ) → In 8 p → station (around ranks me n period tick x mail) p ≡ stood me n x p
+module _ (clock : Bool) (ranks : List ℕ) (me n period tick : ℕ) (x : Station) (mail : ℕ → List Message) where
+  around-at : (p : ℕ) → In 8 p → station (around clock ranks me n period tick x mail) p ≡ stood me n x p
   around-at p h =
       let e : p - 1 + 1 ≡ p = omega (arith, h .low) in
       getD-upTo 8 (λ k. stood me n x (k + 1)) (p - 1) noStation (omega (arith, h .low, h .high)) ∙ ap (stood me n x) e
 
-  pub around-station : In 8 me → station (around ranks me n period tick x mail) me ≡ x
+  pub around-station : In 8 me → station (around clock ranks me n period tick x mail) me ≡ x
   around-station h = around-at me h ∙ rw (eq-eqb me me refl)
 
-  around-down : (p : ℕ) → In 8 p → p ≢ me → station (around ranks me n period tick x mail) p .up ≡ false
+  around-down : (p : ℕ) → In 8 p → p ≢ me → station (around clock ranks me n period tick x mail) p .up ≡ false
   around-down p h ne = ap (λ y. y .up) (around-at p h) ∙ rw (ne-eqb p me ne)
 
-  pub around-underway : (p : ℕ) → In 8 p → In 8 me → underway (around ranks me n period tick x mail) p me ≡ mail p
+  pub around-underway : (p : ℕ) → In 8 p → In 8 me → underway (around clock ranks me n period tick x mail) p me ≡ mail p
   around-underway p hp hm =
       ap messages (at-link (λ a b. holding (mailed me mail a b)) p me noLink hp hm ∙ rw (eq-eqb me me refl)) ∙ messages-held (mail p)
 
   -- its tables are full, if the ranks are and no sender has more messages than a link has places
-  pub around-full : length ranks ≡ 8 → ((p : ℕ) → length (mail p) ≤ places) → Full (around ranks me n period tick x mail)
+  pub around-full : length ranks ≡ 8 → ((p : ℕ) → length (mail p) ≤ places) → Full (around clock ranks me n period tick x mail)
   around-full eight few =
       record {
         stations = length-upTo 8 (λ k. stood me n x (k + 1));
@@ -90,27 +92,26 @@ module _ (ranks : List ℕ) (me n period tick : ℕ) (x : Station) (mail : ℕ �
 pub inside-eight : (me n period : ℕ) → Ranges me n period → In 8 me
 inside-eight me n period r = record { low = r .me-low; high = omega (arith, r .me-high, r .n-high) }
 
-module _ (ranks : List ℕ) (me n period tick : ℕ) (x : Station) (mail : ℕ → List Message) (ranked : ranksIn n ranks ≡ true) (f : fit me n period tick x ≡ true) where
+module _ (clock : Bool) (ranks : List ℕ) (me n period tick : ℕ) (x : Station) (mail : ℕ → List Message) (ranked : ranksIn (rankedOf clock n) ranks ≡ true) (f : fits clock me n period tick x ≡ true) where
   abbrev given : Ranges me n period
-  given = fit-ranges me n period tick x f .0
+  given = fits-ranges me n period tick x clock f .0
 
   abbrev made : System
-  made = around ranks me n period tick x mail
+  made = around clock ranks me n period tick x mail
 
   wide : (p : ℕ) → In n p → In 8 p
   wide p h = widen n p (given .n-high) h
 
   -- each station fits, and there is none beyond n
-  made-fits : (p : ℕ) → In n p → fit p n period tick (station made p) ≡ true
-  made-fits p h = rw (around-at ranks me n period tick x mail p (wide p h)) (go (ℕ-discrete p me))
+  made-fits : (p : ℕ) → In n p → fits clock p n period tick (station made p) ≡ true
+  made-fits p h = rw (around-at clock ranks me n period tick x mail p (wide p h)) (go (ℕ-discrete p me))
     where
-      go : Dec (p ≡ me) → fit p n period tick (stood me n x p) ≡ true
+      go : Dec (p ≡ me) → fits clock p n period tick (stood me n x p) ≡ true
       go (yes e) = rw (eq-eqb p me e, e) f
       go (no e) =
           rw (ne-eqb p me e, lt-ltb (p - 1) n (omega (arith, h .low, h .high)))
-          (down-fits p n period tick (unstarted p)
-          (record { n-low = given .n-low; n-high = given .n-high; period-low = given .period-low; period-high = given .period-high; me-low = h .low; me-high = h .high })
-          (record { few = omega arith; low = h .low; high = h .high }))
+          (unstarted-fits clock p n period tick
+          (record { n-low = given .n-low; n-high = given .n-high; period-low = given .period-low; period-high = given .period-high; me-low = h .low; me-high = h .high }))
 
   made-seat : (k : ℕ) → n ≤ k → k < 8 → emptySeat (getD (made .stations) k noStation) (getD (made .sent) k 0) ≡ true
   made-seat k l h =
@@ -119,15 +120,15 @@ module _ (ranks : List ℕ) (me n period tick : ℕ) (x : Station) (mail : ℕ �
   made-short : (p q : ℕ) → In n p → In n q → p ≢ q → delay made p q ≤ longestDelay
   made-short p q hp hq ne = omega (arith, getD-replicate {A = ℕ} 64 (place p q) 0 0 (place-in p q (wide p hp) (wide q hq)))
 
-  module _ (m : Inbox me n period tick mail) where
-    made-linked : (p q : ℕ) → In n p → In n q → p ≢ q → Linked n period tick (station made p) (getD (made .links) (place p q) noLink)
+  module _ (m : Inbox clock me n period tick mail) where
+    made-linked : (p q : ℕ) → In n p → In n q → p ≢ q → Linked clock n period tick (station made p) (getD (made .links) (place p q) noLink)
     made-linked p q hp hq ne = rw (at-link (λ a b. holding (mailed me mail a b)) p q noLink (wide p hp) (wide q hq)) (go (ℕ-discrete q me))
       where
-        go : Dec (q ≡ me) → Linked n period tick (station made p) (holding (mailed me mail p q))
+        go : Dec (q ≡ me) → Linked clock n period tick (station made p) (holding (mailed me mail p q))
         go (yes e) =
             rw (eq-eqb q me e)
-            (holding-linked n period tick (station made p) (mail p) (m .carried p .few) (m .carried p .spaced (station made p) (around-down ranks me n period tick x mail p (wide p hp) (λ i. ne (i ∙ sym e)))))
-        go (no e) = rw (ne-eqb q me e) (empty-linked n period tick (station made p))
+            (holding-linked clock n period tick (station made p) (mail p) (m .carried p .few) (m .carried p .spaced (station made p) (around-down clock ranks me n period tick x mail p (wide p hp) (λ i. ne (i ∙ sym e)))))
+        go (no e) = rw (ne-eqb q me e) (empty-linked clock n period tick (station made p))
 
     unmailed : (p q : ℕ) → isLink n p q ≡ false → mailed me mail p q ≡ []
     unmailed p q l = go (ℕ-discrete q me)
@@ -159,11 +160,12 @@ module _ (ranks : List ℕ) (me n period tick : ℕ) (x : Station) (mail : ℕ �
         })
         refl
 
-    pub around-holds : tick ≤ 1000000 → Holds me n period tick made
+    pub around-holds : tick ≤ 1000000 → Holds clock me n period tick made
     around-holds h =
         record {
           is-sound = around-sound h;
           is-ready = refl;
+          same-kind = refl;
           same-n = refl;
           same-period = refl;
           same-tick = refl;
@@ -182,22 +184,22 @@ pub eight-ranks : length noRanks ≡ 8
 eight-ranks = length-replicate {A = ℕ} 8 0
 
 -- a command on station me finds the station there
-pub around-finds : (me n period tick : ℕ) (x : Station) → tick ≤ 1000000 → fit me n period tick x ≡ true → ByFull (Finds me n period tick x) (λ h. h .system)
-around-finds me n period tick x h f = (
+pub around-finds : (clock : Bool) (me n period tick : ℕ) (x : Station) → tick ≤ 1000000 → fits clock me n period tick x ≡ true → ByFull (Finds clock me n period tick x) (λ h. h .system)
+around-finds clock me n period tick x h f = (
   record {
-    system = around noRanks me n period tick x noMail;
-    holds = around-holds noRanks me n period tick x noMail (no-ranks n) f (no-mail me n period tick) h;
-    is-station = around-station noRanks me n period tick x noMail (inside-eight me n period (fit-ranges me n period tick x f .0));
+    system = around clock noRanks me n period tick x noMail;
+    holds = around-holds clock noRanks me n period tick x noMail (no-ranks (rankedOf clock n)) f (no-mail clock me n period tick) h;
+    is-station = around-station clock noRanks me n period tick x noMail (inside-eight me n period (fits-ranges me n period tick x clock f .0));
   },
-  around-full noRanks me n period tick x noMail eight-ranks (λ p. omega arith),
+  around-full clock noRanks me n period tick x noMail eight-ranks (λ p. omega arith),
 )
 
 -- the tick now comes
-pub around-runs : (ranks : List ℕ) (me n period now : ℕ) (x : Station) (mail : ℕ → List Message) → 1 ≤ now → now ≤ 1000000 → ranksIn n ranks ≡ true → fit me n period (now - 1) x ≡ true → x .up ≡ true → Inbox me n period (now - 1) mail → Runs me n period now (around ranks me n period (now - 1) x mail)
-around-runs ranks me n period now x mail low high ranked f u m =
+pub around-runs : (clock : Bool) (ranks : List ℕ) (me n period now : ℕ) (x : Station) (mail : ℕ → List Message) → 1 ≤ now → now ≤ 1000000 → ranksIn (rankedOf clock n) ranks ≡ true → fits clock me n period (now - 1) x ≡ true → x .up ≡ true → Inbox clock me n period (now - 1) mail → Runs clock me n period now (around clock ranks me n period (now - 1) x mail)
+around-runs clock ranks me n period now x mail low high ranked f u m =
     record {
       low = low;
       high = high;
-      holds = around-holds ranks me n period (now - 1) x mail ranked f m (omega arith);
-      is-up = ap (λ y. y .up) (around-station ranks me n period (now - 1) x mail (inside-eight me n period (fit-ranges me n period (now - 1) x f .0))) ∙ u;
+      holds = around-holds clock ranks me n period (now - 1) x mail ranked f m (omega arith);
+      is-up = ap (λ y. y .up) (around-station clock ranks me n period (now - 1) x mail (inside-eight me n period (fits-ranges me n period (now - 1) x clock f .0))) ∙ u;
     }

@@ -2,7 +2,7 @@
 use mathlib.Core.Path.{_≡_}
 use mathlib.Core.Logic.{_≢_}
 use mathlib.Core.List.{List, _∷_, _++_}
-use mathlib.Core.Bool.{true}
+use mathlib.Core.Bool.{Bool, true}
 use Prim.Native.Nat.{ℕ, _+_, _≤_}
 use Rattle.fit.specs.Fit.{flight}
 use Rattle.handing.specs.Handed.{Full}
@@ -31,9 +31,10 @@ pub record Together : Type 0 where
   pub is-mail : underway system p q ≡ first ++ (older ∷ (between ++ (younger ∷ last)))
   pub is-due : older .due ≡ younger .due
 
--- they were sent at least a period apart and at most the flight limit; and whatever the period up to it, some system of full tables reaches it
+-- they were sent at least a period apart and at most the flight limit; and whatever the kind of head, and the period up to it, some system of
+-- full tables reaches it
 abbrev pub FlightExact : Type 0
 FlightExact =
     ((t : Together) → (t .older .sent + t .system .period ≤ t .younger .sent) × (t .younger .sent ≤ t .older .sent + flight))
-    × ((period : ℕ) → 16 ≤ period → period ≤ flight
-    → (t : Together) × Full (t .system) × (t .system .period ≡ period) × (t .younger .sent ≡ t .older .sent + flight))
+    × ((clock : Bool) (period : ℕ) → 16 ≤ period → period ≤ flight
+    → (t : Together) × Full (t .system) × (t .system .clock ≡ clock) × (t .system .period ≡ period) × (t .younger .sent ≡ t .older .sent + flight))
