@@ -17,7 +17,7 @@ use Rattle.election.specs.Sound.{sound}
 use Rattle.election.specs.Commands.{Command, Rank, decode, operands, noneStarted, lastCommand, tests, ruling, refusal, perform, command, numberOf}
 use Rattle.election.specs.System.{noStation}
 use Rattle.election.specs.declared.Refusal.{Refusal}
-use Rattle.election.specs.declared.Refusal.the-variants.{UnknownCommand, MissingOperand, NotSetUp, SetUpTwice, StationsRange, PeriodRange, StationRange, StationUp, StationDown, WornOut, SameStation, NoTicks, PastLastTick, Unsound, BufferShort, ScheduleLong, RankRange, AlreadyStarted}
+use Rattle.election.specs.declared.Refusal.the-variants.{UnknownCommand, MissingOperand, NotSetUp, SetUpTwice, StationsRange, PeriodRange, StationRange, StationUp, StationDown, WornOut, SameStation, NoTicks, PastLastTick, Unsound, BufferShort, ScheduleLong, RankRange, AlreadyStarted, ClockHeads}
 use Rattle.election.specs.declared.System.{System}
 use Rattle.decision.specs.Decided.{Turned, Taken, Sees, decided, meaning}
 use Rattle.decision.specs.declared.Decision.{Decision}
@@ -27,10 +27,10 @@ use Rattle.decision.proofs.Decision.{the-type}
 
 -- what is decided from a system's values is decided of the system
 pub decided-by : (s : System) (bytes : List ℕ) (k : ℕ) (d : Decision) → sound s ≡ true → (k < 8) × (getD bytes 1 0 ≤ 8 → getD bytes 1 0 - 1 ≡ k)
-    → ((z : System) → sound z ≡ true → Sees z (s .ready) (s .n) (s .tick) (getD (s .stations) k noStation) bytes → meaning z d ≡ decided (ruling z bytes) (decode bytes))
+    → ((z : System) → sound z ≡ true → Sees z (s .ready) (s .clock) (s .n) (s .tick) (getD (s .stations) k noStation) bytes → meaning z d ≡ decided (ruling z bytes) (decode bytes))
     → meaning s d ≡ decided (ruling s bytes) (decode bytes)
 decided-by s bytes k d ok named told =
-    told s ok (record { is-ready = refl; is-n = refl; is-tick = refl; is-named = λ h. ap (λ i. getD (s .stations) i noStation) (named .1 h) })
+    told s ok (record { is-ready = refl; is-clock = refl; is-n = refl; is-tick = refl; is-named = λ h. ap (λ i. getD (s .stations) i noStation) (named .1 h) })
 
 -- a refusal has a number
 pub numbered : (why : Refusal) → numberOf why ≢ 0
@@ -52,6 +52,7 @@ numbered BufferShort e = absurd (omega (arith, e))
 numbered ScheduleLong e = absurd (omega (arith, e))
 numbered RankRange e = absurd (omega (arith, e))
 numbered AlreadyStarted e = absurd (omega (arith, e))
+numbered ClockHeads e = absurd (omega (arith, e))
 
 -- what was decided, read back
 turned-by : (k : ℕ) (c : Command) {number : ℕ} → Turned number ≡ decided k c → k ≡ number
@@ -84,7 +85,7 @@ noRank = 0 ∷ 1 ∷ 2 ∷ 3 ∷ 4 ∷ 5 ∷ 6 ∷ 7 ∷ []
 not-refused : (s : System) (d : Decision) → OneOf taking (tagOf the-type d) → OneOf noRank (tagOf the-type d) ⊎ (noneStarted (s .stations) ≡ true)
     → (k : ℕ) (c : Command) → meaning s d ≡ decided k c → k ≡ 0
 not-refused s (code.Refused why) h i k c m = absurd (miss taking 0 tt h)
-not-refused s (code.SetUp n period) h i k c m = taken-by k c m .0
+not-refused s (code.SetUp clock n period) h i k c m = taken-by k c m .0
 not-refused s (code.Start p) h i k c m = taken-by k c m .0
 not-refused s (code.Crash p) h i k c m = taken-by k c m .0
 not-refused s (code.Link p q x) h i k c m = taken-by k c m .0

@@ -24,7 +24,7 @@ decided refusal c = cond (eqb refusal 0) (Taken c) (Turned refusal)
 -- what the code's decision says of a system: a rank is taken if no station was ever started, which is still to be tested
 abbrev pub meaning : System → Decision → Decided
 meaning s (code.Refused why) = Turned (numberOf why)
-meaning s (code.SetUp n period) = Taken (SetUp n period)
+meaning s (code.SetUp clock n period) = Taken (SetUp clock n period)
 meaning s (code.Start p) = Taken (Start p)
 meaning s (code.Crash p) = Taken (Crash p)
 meaning s (code.Link p q d) = Taken (Link p q d)
@@ -34,8 +34,9 @@ meaning s code.Report = Taken Report
 meaning s (code.Rank p r) = cond (noneStarted (s .stations)) (Taken (Rank p r)) (Turned 23)
 
 -- the values that a decision needs are those of a system: the station is the one that the first operand names
-pub record Sees (s : System) (ready : Bool) (n tick : ℕ) (x : Station) (bytes : List ℕ) : Type 0 where
+pub record Sees (s : System) (ready clock : Bool) (n tick : ℕ) (x : Station) (bytes : List ℕ) : Type 0 where
   pub is-ready : s .ready ≡ ready
+  pub is-clock : s .clock ≡ clock
   pub is-n : s .n ≡ n
   pub is-tick : s .tick ≡ tick
   pub is-named : getD bytes 1 0 ≤ 8 → station s (getD bytes 1 0) ≡ x

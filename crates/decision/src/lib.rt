@@ -26,7 +26,7 @@ const LAST: u64 = LAST_TICK as u64;
 // A command that is turned down, or taken with its operands.
 pub enum Decision {
     Refused(Refusal),
-    SetUp { n: u8, period: u8 },
+    SetUp { clock: bool, n: u8, period: u8 },
     Start(u8),
     Crash(u8),
     Link { from: u8, to: u8, delay: u8 },
@@ -54,16 +54,16 @@ fn are_stations(n: u8, p: u8, q: u8) -> bool
     is_station(n, p) & is_station(n, q)
 }
 
-// Set up, with operands in range.
-fn set_up(ready: bool, n: u8, period: u8) -> Decision
-    ensures { λ r. ⌜ ((s : System) → s .ready ≡ ready → meaning s r ≡ decided (firstFailed (tests s (SetUp n period))) (SetUp n period)) ⌝ }
+// Set up of either kind of head, with operands in range.
+fn set_up(clock: bool, ready: bool, n: u8, period: u8) -> Decision
+    ensures { λ r. ⌜ ((s : System) → s .ready ≡ ready → meaning s r ≡ decided (firstFailed (tests s (SetUp clock n period))) (SetUp clock n period)) ⌝ }
 {
     if ready {
         return Decision::Refused(Refusal::SetUpTwice);
     }
     match n {
         2..=8 => match period {
-            16..=255 => Decision::SetUp { n, period },
+            16..=255 => Decision::SetUp { clock, n, period },
             _ => Decision::Refused(Refusal::PeriodRange),
         },
         _ => Decision::Refused(Refusal::StationsRange),
@@ -168,12 +168,15 @@ fn report(ready: bool) -> Decision
     Decision::Report
 }
 
-// A station gets a rank; that no station was ever started is still to be tested.
-fn rank(ready: bool, n: u8, p: u8, x: u8) -> Decision
-    ensures { λ r. ⌜ ((s : System) → s .ready ≡ ready → s .n ≡ n → meaning s r ≡ decided (firstFailed (tests s (Rank p x))) (Rank p x)) ⌝ }
+// A station gets a rank, if the heads have flash; that no station was ever started is still to be tested.
+fn rank(ready: bool, clock: bool, n: u8, p: u8, x: u8) -> Decision
+    ensures { λ r. ⌜ ((s : System) → s .ready ≡ ready → s .clock ≡ clock → s .n ≡ n → meaning s r ≡ decided (firstFailed (tests s (Rank p x))) (Rank p x)) ⌝ }
 {
     if !ready {
         return Decision::Refused(Refusal::NotSetUp);
+    }
+    if clock {
+        return Decision::Refused(Refusal::ClockHeads);
     }
     if !is_station(n, p) {
         return Decision::Refused(Refusal::StationRange);
@@ -227,8 +230,8 @@ pub fn named(bytes: &[u8]) -> usize
 }
 
 // Decides on the first command of the bytes, for a sound system of which the values are, and the station that the command names.
-pub fn decide(ready: bool, n: u8, tick: u32, x: Station, bytes: &[u8]) -> Decision
-    ensures { λ r. ⌜ ((s : System) → sound s ≡ true → Sees s ready n tick x (now (bytes .entry)) → meaning s r ≡ decided (ruling s (now (bytes .entry))) (decode (now (bytes .entry)))) ⌝ }
+pub fn decide(ready: bool, clock: bool, n: u8, tick: u32, x: Station, bytes: &[u8]) -> Decision
+    ensures { λ r. ⌜ ((s : System) → sound s ≡ true → Sees s ready clock n tick x (now (bytes .entry)) → meaning s r ≡ decided (ruling s (now (bytes .entry))) (decode (now (bytes .entry)))) ⌝ }
 {
     if bytes.len() == 0 {
         return Decision::Refused(Refusal::MissingOperand);
@@ -238,14 +241,15 @@ pub fn decide(ready: bool, n: u8, tick: u32, x: Station, bytes: &[u8]) -> Decisi
         return Decision::Refused(Refusal::MissingOperand);
     }
     match b {
-        1 => set_up(ready, bytes[1], bytes[2]),
+        1 => set_up(false, ready, bytes[1], bytes[2]),
         2 => start(ready, n, x, bytes[1]),
         3 => crash(ready, n, x, bytes[1]),
         4 => link(ready, n, bytes[1], bytes[2], bytes[3]),
         5 => run(ready, tick, word(bytes[1], bytes[2])),
         6 => lose(ready, n, bytes[1], bytes[2]),
         7 => report(ready),
-        8 => rank(ready, n, bytes[1], bytes[2]),
+        8 => rank(ready, clock, n, bytes[1], bytes[2]),
+        9 => set_up(true, ready, bytes[1], bytes[2]),
         _ => Decision::Refused(Refusal::UnknownCommand),
     }
 }

@@ -1,7 +1,7 @@
 -- A sound system that is laid out: its tables are full, and each link has zeros after its messages.
 use mathlib.Core.Path.{_≡_, sym, ap, subst, _∙_}
 use mathlib.Core.List.{List, [], _∷_, map}
-use mathlib.Core.Bool.{true}
+use mathlib.Core.Bool.{true, _&&_}
 use Prim.Native.Nat.{ℕ, zero, suc, _+_, _*_, _<_, _≤_}
 use native.Mathlib.Decide.{decLt}
 use native.Mathlib.Omega.{arith}
@@ -13,7 +13,7 @@ use denote.Array.{each}
 use denote.Shadow.{shadow}
 use mir.Val.{Val}
 use Rattle.lists.specs.Entries.{over}
-use Rattle.lists.proofs.Bools.{three}
+use Rattle.lists.proofs.Bools.{both, three}
 use Rattle.lists.proofs.Entries.{length-over, over-beyond, over-front}
 use Rattle.lists.proofs.Segment.{length-segment, getD-segment}
 use Rattle.fit.specs.Fit.{countsIn}
@@ -34,8 +34,9 @@ use Rattle.layout.proofs.Stores.{length-links, places-read}
 zero-unused : (m : Message) → length (m .counts) ≡ 8 → emptyMessage m ≡ true → m ≡ unused
 unfolding emptyMessage
 zero-unused m size e =
-    let (a, b, c) = three (eqb (m .sent) 0) (eqb (m .due) 0) (countsIn 0 (m .counts)) e in
-    λ i. record { sent = eqb-true (m .sent) 0 a i; due = eqb-true (m .due) 0 b i; counts = zeros c i }
+    let (a, b, c) = three (eqb (m .sent) 0) (eqb (m .due) 0) (countsIn 0 (m .counts) && eqb (m .stamp) 0) e in
+    let (v, z) = both (countsIn 0 (m .counts)) (eqb (m .stamp) 0) c in
+    λ i. record { sent = eqb-true (m .sent) 0 a i; due = eqb-true (m .due) 0 b i; counts = zeros v i; stamp = eqb-true (m .stamp) 0 z i }
   where
     zeros : countsIn 0 (m .counts) ≡ true → m .counts ≡ replicate 8 0
     zeros c =
@@ -79,8 +80,8 @@ held-of s stations sent counts e u = record { stations = stations; sent = sent; 
     at : (k : ℕ) → k < 64 → isLink (s .n) (from k) (to k) ≡ true → holding (messages (getD (systemOf s .links) k noLink)) ≡ getD (systemOf s .links) k noLink
     at k h i =
         let (hp, hq, ne) = link-of (s .n) (from k) (to k) (omega arith) (omega arith) i in
-        let f : Linked (s .n) (s .period) (s .tick) (station (systemOf s) (from k)) (getD (systemOf s .links) k noLink) =
-        subst (λ x. Linked (s .n) (s .period) (s .tick) (station (systemOf s) (from k)) (getD (systemOf s .links) x noLink)) (place-of k h) (sound-of (systemOf s) e u .linked (from k) (to k) hp hq ne) in
+        let f : Linked (s .clock) (s .n) (s .period) (s .tick) (station (systemOf s) (from k)) (getD (systemOf s .links) k noLink) =
+        subst (λ x. Linked (s .clock) (s .n) (s .period) (s .tick) (station (systemOf s) (from k)) (getD (systemOf s .links) x noLink)) (place-of k h) (sound-of (systemOf s) e u .linked (from k) (to k) hp hq ne) in
         holding-is (getD (systemOf s .links) k noLink) (ap length (places-read s k h) ∙ length-segment places noMessage (s .messages) k) (f .few)
         (λ x b c. zero-unused (messageAt (getD (systemOf s .links) k noLink) x)
         (ap (λ (m : Message). length (m .counts)) (ap (λ (l : List Message). getD l x noMessage) (places-read s k h) ∙ getD-segment places noMessage (s .messages) k x noMessage c) ∙ counts (places * k + x) (omega arith))

@@ -1,7 +1,7 @@
 -- What set up leaves, and the fresh system, laid out: which places are links, as the code tests it, and the parts put together.
 use mathlib.Core.Path.{_≡_, refl, sym, _∙_}
 use mathlib.Core.List.{List, []}
-use mathlib.Core.Bool.{true, false, not, _&&_}
+use mathlib.Core.Bool.{Bool, true, false, not, _&&_}
 use Prim.Native.Nat.{ℕ, _+_, _-_, _*_, _/_, _%_, _<_}
 use native.Mathlib.Decide.{ℕ-discrete}
 use native.Mathlib.Omega.{arith}
@@ -47,13 +47,13 @@ links-none m e =
         ∙ sym (getD-replicate places i unused noMessage c))
 
 -- what set up leaves, from its parts
-pub set-up-is : (n period : ℕ) (xs : List Station) (ds : List ℕ) (m : Message) → xs ≡ initial n 0 .stations → ds ≡ initial n 0 .delays → m ≡ unused
-    → systemOf (record { ready = true; n = n; period = period; tick = 0; stations = xs; sent = replicate 8 0; delays = ds; used = replicate 64 0; messages = replicate (64 * places) m; ranks = replicate 8 0 }) ≡ initial n period
+pub set-up-is : (clock : Bool) (n period : ℕ) (xs : List Station) (ds : List ℕ) (m : Message) → xs ≡ initial false n 0 .stations → ds ≡ initial false n 0 .delays → m ≡ unused
+    → systemOf (record { ready = true; n = n; period = period; tick = 0; stations = xs; sent = replicate 8 0; delays = ds; used = replicate 64 0; messages = replicate (64 * places) m; ranks = replicate 8 0; clock = clock }) ≡ initial clock n period
 unfolding initial
-set-up-is n period xs ds m a b e = rw (a, b, links-none m e) refl
+set-up-is clock n period xs ds m a b e = rw (a, b, links-none m e) refl
 
 -- the fresh system, from its empty station and message
 pub fresh-is : (x : Station) (m : Message) → x ≡ unstarted 0 → m ≡ unused
-    → systemOf (record { ready = false; n = 0; period = 0; tick = 0; stations = replicate 8 x; sent = replicate 8 0; delays = replicate 64 0; used = replicate 64 0; messages = replicate (64 * places) m; ranks = replicate 8 0 }) ≡ fresh
+    → systemOf (record { ready = false; n = 0; period = 0; tick = 0; stations = replicate 8 x; sent = replicate 8 0; delays = replicate 64 0; used = replicate 64 0; messages = replicate (64 * places) m; ranks = replicate 8 0; clock = false }) ≡ fresh
 unfolding fresh
 fresh-is x m a e = rw (a, links-none m e) refl

@@ -74,6 +74,7 @@ relaid stations sent delays used messages ranks s =
       used = used;
       messages = messages;
       ranks = ranks;
+      clock = s .clock;
     }
 
 -- .. with one of these alone

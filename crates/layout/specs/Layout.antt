@@ -31,4 +31,5 @@ systemOf s =
       delays = s .delays;
       links = linksOf (s .used) (s .messages);
       ranks = s .ranks;
+      clock = s .clock;
     }

@@ -18,4 +18,5 @@ pub struct Layout {
     pub used: [u8; 64],
     pub messages: [Message; 64 * PLACES],
     pub ranks: [u8; 8],
+    pub clock: bool,
 }

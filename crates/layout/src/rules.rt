@@ -1,6 +1,6 @@
 // The fresh system and what set up leaves, laid out; and from a system to its layout and back.
 ghost use mathlib.Core.Path.{_≡_};
-ghost use mathlib.Core.Bool.{cond};
+ghost use mathlib.Core.Bool.{false, cond};
 ghost use Prim.Native.Nat.{_+_, _<_, _≤_};
 ghost use lib.Dec.{ltb};
 ghost use Rattle.election.specs.System.{place, from, to, unused, isLink, unstarted, fresh, initial};
@@ -28,6 +28,7 @@ pub fn unused() -> Message
         sent: 0,
         due: 0,
         counts: [0u16; 8],
+        stamp: 0,
     }
 }
 
@@ -45,6 +46,9 @@ fn never_started(leader: u8) -> Station
         recovering: false,
         recovered: [0; 8],
         timeouts: [0; 8],
+        stamp: 0,
+        lowest: 0,
+        timeout: 0,
     }
 }
 
@@ -58,7 +62,7 @@ fn own_number(n: u8, k: usize) -> u8
 
 // The stations that set up leaves.
 fn first_stations(n: u8) -> [Station; 8]
-    ensures { λ r. ⌜ r ≡ initial n 0 .stations ⌝ }
+    ensures { λ r. ⌜ r ≡ initial false n 0 .stations ⌝ }
 {
     let none = never_started(0);
     let mut r = [none; 8];
@@ -85,7 +89,7 @@ fn first_delay(n: u8, k: usize) -> u8
 
 // The delays that set up leaves.
 fn first_delays(n: u8) -> [u8; 64]
-    ensures { λ r. ⌜ r ≡ initial n 0 .delays ⌝ }
+    ensures { λ r. ⌜ r ≡ initial false n 0 .delays ⌝ }
 {
     let mut r = [0u8; 64];
     for k in 0..64 {
@@ -94,9 +98,9 @@ fn first_delays(n: u8) -> [u8; 64]
     r
 }
 
-// The system is set up.
-pub fn set_up(n: u8, period: u32) -> Layout
-    ensures { λ r. ⌜ systemOf r ≡ initial n period ⌝ }
+// The system is set up, with clock heads or not.
+pub fn set_up(clock: bool, n: u8, period: u32) -> Layout
+    ensures { λ r. ⌜ systemOf r ≡ initial clock n period ⌝ }
 {
     let stations = first_stations(n);
     let delays = first_delays(n);
@@ -112,6 +116,7 @@ pub fn set_up(n: u8, period: u32) -> Layout
         used: [0; 64],
         messages: [empty; 64 * PLACES],
         ranks: [0; 8],
+        clock,
     }
 }
 
@@ -132,6 +137,7 @@ pub fn fresh() -> Layout
         used: [0; 64],
         messages: [empty; 64 * PLACES],
         ranks: [0; 8],
+        clock: false,
     }
 }
 
@@ -164,6 +170,7 @@ pub fn layout_of(s: System) -> Layout
         used,
         messages,
         ranks,
+        clock: s.clock,
     }
 }
 
@@ -199,5 +206,6 @@ pub fn system_of(x: Layout) -> System
         delays,
         links,
         ranks,
+        clock: x.clock,
     }
 }

@@ -31,5 +31,5 @@ pub fn listing(s: System, buffer: &mut [u8]) -> Answer
     if buffer.len() < listing_size(s, v) {
         return Answer::Refused(Refusal::BufferShort);
     }
-    Answer::Done(put_listing(s.n, s.tick, stations, sent, v, buffer))
+    Answer::Done(put_listing(s.clock, s.n, s.tick, stations, sent, v, buffer))
 }

@@ -2,8 +2,10 @@
 ghost use Prim.Native.Nat.{_+_, _≤_};
 ghost use lib.ListN.{length};
 ghost use mathlib.Core.Bool.{cond};
-ghost use Rattle.election.specs.Listing.{upWord, downWord, status, leaderOf, vectorOf, stationLine, stationLines, verdictLine, listingOf};
-ghost use Rattle.listing.specs.Pieces.{who, known, ends, listingWith};
+ghost use mathlib.Core.List.{_++_};
+ghost use Rattle.election.specs.Listing.{upWord, downWord, status, leaderOf, vectorOf, knownOf, keptOf, stationLine, stationLines, verdictLine, listingOf};
+ghost use Rattle.listing.specs.Pieces.{who, stamped, ends, listingWith};
+ghost use Rattle.text.specs.Numbers.{newline};
 ghost use Rattle.text.specs.Wrote.{Wrote};
 use crate::search::search;
 use election::Verdict;
@@ -41,7 +43,7 @@ fn put_leader(up: bool, l: u8, buffer: &mut [u8]) -> usize
     requires { ⌜ length (leaderOf up l) ≤ length (now buffer) ⌝ }
     ensures { λ r. ⌜ Wrote (leaderOf up l) (now (buffer .entry)) r (now (buffer .exit)) ⌝ }
 {
-    if up {
+    if up & (0 < l) {
         return put_named(b" leader ", l as u64, buffer);
     }
     put(b" leader -", buffer)
@@ -59,6 +61,17 @@ fn put_rec(n: usize, up: bool, v: [u16; 8], buffer: &mut [u8]) -> usize
     at + put_counts(n, v, &mut buffer[at..])
 }
 
+// Writes what a clock head knows: its stamp.
+fn put_stamp(up: bool, z: u32, buffer: &mut [u8]) -> usize
+    requires { ⌜ length (stamped up z) ≤ length (now buffer) ⌝ }
+    ensures { λ r. ⌜ Wrote (stamped up z) (now (buffer .entry)) r (now (buffer .exit)) ⌝ }
+{
+    if up {
+        return put_named(b" inc - stamp ", z as u64, buffer);
+    }
+    put(b" inc - stamp -", buffer)
+}
+
 // Writes who a station is: number, status and leader.
 fn put_who(p: u8, x: Station, buffer: &mut [u8]) -> usize
     requires { ⌜ length (who p x) ≤ length (now buffer) ⌝ }
@@ -68,44 +81,64 @@ fn put_who(p: u8, x: Station, buffer: &mut [u8]) -> usize
     at + put_leader(x.up, x.leader, &mut buffer[at..])
 }
 
-// Writes what a station knows: its count and its vector.
-fn put_known(n: usize, x: Station, buffer: &mut [u8]) -> usize
-    requires { ⌜ (n ≤ 8) × (length (known n x) ≤ length (now buffer)) ⌝ }
-    ensures { λ r. ⌜ Wrote (known n x) (now (buffer .entry)) r (now (buffer .exit)) ⌝ }
+// Writes what a station knows: its count and its vector, or the stamp of a clock head.
+fn put_known(clock: bool, n: usize, x: Station, buffer: &mut [u8]) -> usize
+    requires { ⌜ (n ≤ 8) × (length (knownOf clock n x) ≤ length (now buffer)) ⌝ }
+    ensures { λ r. ⌜ Wrote (knownOf clock n x) (now (buffer .entry)) r (now (buffer .exit)) ⌝ }
 {
+    if clock {
+        return put_stamp(x.up, x.stamp, buffer);
+    }
     let v = x.recovered;
     let at = put_named(b" inc ", x.incarnation as u64, buffer);
     at + put_rec(n, x.up, v, &mut buffer[at..])
 }
 
+// Writes the leader that a station keeps, and the end of the line.
+fn put_kept(clock: bool, l: u8, buffer: &mut [u8]) -> usize
+    requires { ⌜ length (keptOf clock l ++ newline) ≤ length (now buffer) ⌝ }
+    ensures { λ r. ⌜ Wrote (keptOf clock l ++ newline) (now (buffer .entry)) r (now (buffer .exit)) ⌝ }
+{
+    if clock {
+        return put(b" kept -\n", buffer);
+    }
+    put_last(b" kept ", l as u64, buffer)
+}
+
 // Writes how many messages a station has sent, the leader that it keeps, and the end of the line.
-fn put_ends(sent: u32, x: Station, buffer: &mut [u8]) -> usize
-    requires { ⌜ length (ends sent x) ≤ length (now buffer) ⌝ }
-    ensures { λ r. ⌜ Wrote (ends sent x) (now (buffer .entry)) r (now (buffer .exit)) ⌝ }
+fn put_ends(clock: bool, sent: u32, x: Station, buffer: &mut [u8]) -> usize
+    requires { ⌜ length (ends clock sent x) ≤ length (now buffer) ⌝ }
+    ensures { λ r. ⌜ Wrote (ends clock sent x) (now (buffer .entry)) r (now (buffer .exit)) ⌝ }
 {
     let at = put_named(b" sent ", sent as u64, buffer);
-    at + put_last(b" kept ", x.stable as u64, &mut buffer[at..])
+    at + put_kept(clock, x.stable, &mut buffer[at..])
 }
 
 // Writes the line of station p.
-fn put_line(n: usize, p: u8, x: Station, sent: u32, buffer: &mut [u8]) -> usize
-    requires { ⌜ (n ≤ 8) × (length (stationLine n p x sent) ≤ length (now buffer)) ⌝ }
-    ensures { λ r. ⌜ Wrote (stationLine n p x sent) (now (buffer .entry)) r (now (buffer .exit)) ⌝ }
+fn put_line(clock: bool, n: usize, p: u8, x: Station, sent: u32, buffer: &mut [u8]) -> usize
+    requires { ⌜ (n ≤ 8) × (length (stationLine clock n p x sent) ≤ length (now buffer)) ⌝ }
+    ensures { λ r. ⌜ Wrote (stationLine clock n p x sent) (now (buffer .entry)) r (now (buffer .exit)) ⌝ }
 {
     let a = put_who(p, x, buffer);
-    let b = a + put_known(n, x, &mut buffer[a..]);
-    b + put_ends(sent, x, &mut buffer[b..])
+    let b = a + put_known(clock, n, x, &mut buffer[a..]);
+    b + put_ends(clock, sent, x, &mut buffer[b..])
 }
 
 // Writes the lines of the first n stations.
-fn put_lines(n: usize, stations: [Station; 8], sent: [u32; 8], buffer: &mut [u8]) -> usize
-    requires { ⌜ (n ≤ 8) × (length (stationLines n stations sent) ≤ length (now buffer)) ⌝ }
-    ensures { λ r. ⌜ Wrote (stationLines n stations sent) (now (buffer .entry)) r (now (buffer .exit)) ⌝ }
+fn put_lines(
+    clock: bool,
+    n: usize,
+    stations: [Station; 8],
+    sent: [u32; 8],
+    buffer: &mut [u8],
+) -> usize
+    requires { ⌜ (n ≤ 8) × (length (stationLines clock n stations sent) ≤ length (now buffer)) ⌝ }
+    ensures { λ r. ⌜ Wrote (stationLines clock n stations sent) (now (buffer .entry)) r (now (buffer .exit)) ⌝ }
 {
     let mut at = 0;
     for k in 0..n {
         let p = k as u8 + 1;
-        at += put_line(n, p, stations[k], sent[k], &mut buffer[at..]);
+        at += put_line(clock, n, p, stations[k], sent[k], &mut buffer[at..]);
     }
     at
 }
@@ -125,6 +158,7 @@ fn put_verdict(v: Verdict, buffer: &mut [u8]) -> usize
 
 // Writes the listing whose verdict is v.
 pub(crate) fn put_listing(
+    clock: bool,
     n: u8,
     tick: u32,
     stations: [Station; 8],
@@ -132,27 +166,28 @@ pub(crate) fn put_listing(
     v: Verdict,
     buffer: &mut [u8],
 ) -> usize
-    requires { ⌜ (n ≤ 8) × (length (listingWith n tick stations sent v) ≤ length (now buffer)) ⌝ }
-    ensures { λ r. ⌜ Wrote (listingWith n tick stations sent v) (now (buffer .entry)) r (now (buffer .exit)) ⌝ }
+    requires { ⌜ (n ≤ 8) × (length (listingWith clock n tick stations sent v) ≤ length (now buffer)) ⌝ }
+    ensures { λ r. ⌜ Wrote (listingWith clock n tick stations sent v) (now (buffer .entry)) r (now (buffer .exit)) ⌝ }
 {
     let most = n as usize;
     let a = put_last(b"tick ", tick as u64, buffer);
-    let b = a + put_lines(most, stations, sent, &mut buffer[a..]);
+    let b = a + put_lines(clock, most, stations, sent, &mut buffer[a..]);
     b + put_verdict(v, &mut buffer[b..])
 }
 
 // Writes the listing of a system at the front of a buffer that has room for it, from what it shows of the system.
 pub fn write_listing(
+    clock: bool,
     n: u8,
     tick: u32,
     stations: [Station; 8],
     sent: [u32; 8],
     buffer: &mut [u8],
 ) -> usize
-    requires { ⌜ (n ≤ 8) × (length (listingOf n tick stations sent) ≤ length (now buffer)) ⌝ }
-    ensures { λ r. ⌜ Wrote (listingOf n tick stations sent) (now (buffer .entry)) r (now (buffer .exit)) ⌝ }
+    requires { ⌜ (n ≤ 8) × (length (listingOf clock n tick stations sent) ≤ length (now buffer)) ⌝ }
+    ensures { λ r. ⌜ Wrote (listingOf clock n tick stations sent) (now (buffer .entry)) r (now (buffer .exit)) ⌝ }
 {
     let found = search(n, stations);
     let v = found.finding;
-    put_listing(n, tick, stations, sent, v, buffer)
+    put_listing(clock, n, tick, stations, sent, v, buffer)
 }

@@ -2,8 +2,8 @@
 ghost use mathlib.Core.Path.{_≡_};
 ghost use Prim.Native.Nat.{_+_, _≤_};
 ghost use lib.ListN.{length};
-ghost use Rattle.listing.specs.Pieces.{who, known, listingWith};
-ghost use Rattle.election.specs.Listing.{stationLine, stationLines, verdictLine};
+ghost use Rattle.listing.specs.Pieces.{who, stamped, listingWith};
+ghost use Rattle.election.specs.Listing.{leaderOf, knownOf, keptOf, stationLine, stationLines, verdictLine};
 ghost use Rattle.text.specs.Numbers.{countOf, vector};
 use election::System;
 use election::Verdict;
@@ -33,22 +33,44 @@ fn counts_size(n: usize, v: [u16; 8]) -> usize
     size
 }
 
+// The length of a station's leader.
+fn leader_size(up: bool, l: u8) -> usize
+    ensures { λ r. ⌜ (r ≡ length (leaderOf up l)) × (r ≤ 28) ⌝ }
+{
+    if up & (0 < l) {
+        decimal_size(l as u64) + 8
+    } else {
+        9
+    }
+}
+
 // The length of who a station is: number, status and leader.
 fn who_size(p: u8, x: Station) -> usize
     ensures { λ r. ⌜ (r ≡ length (who p x)) × (r ≤ 60) ⌝ }
 {
+    let leader = leader_size(x.up, x.leader);
     if x.up {
-        decimal_size(p as u64) + decimal_size(x.leader as u64) + 11
+        decimal_size(p as u64) + leader + 3
     } else {
-        decimal_size(p as u64) + 14
+        decimal_size(p as u64) + leader + 5
     }
 }
 
-// The length of what a station knows: its count and its vector.
-fn known_size(n: usize, x: Station) -> usize
-    requires { ⌜ n ≤ 8 ⌝ }
-    ensures { λ r. ⌜ (r ≡ length (known n x)) × (r ≤ 200) ⌝ }
+// The length of what a clock head knows: its stamp.
+fn stamp_size(up: bool, z: u32) -> usize
+    ensures { λ r. ⌜ (r ≡ length (stamped up z)) × (r ≤ 33) ⌝ }
 {
+    if up { decimal_size(z as u64) + 13 } else { 14 }
+}
+
+// The length of what a station knows: its count and its vector, or the stamp of a clock head.
+fn known_size(clock: bool, n: usize, x: Station) -> usize
+    requires { ⌜ n ≤ 8 ⌝ }
+    ensures { λ r. ⌜ (r ≡ length (knownOf clock n x)) × (r ≤ 200) ⌝ }
+{
+    if clock {
+        return stamp_size(x.up, x.stamp);
+    }
     let v = x.recovered;
     if x.up {
         decimal_size(x.incarnation as u64) + counts_size(n, v) + 10
@@ -57,24 +79,31 @@ fn known_size(n: usize, x: Station) -> usize
     }
 }
 
-// The length of the line of station p.
-fn line_size(n: usize, p: u8, x: Station, sent: u32) -> usize
-    requires { ⌜ n ≤ 8 ⌝ }
-    ensures { λ r. ⌜ (r ≡ length (stationLine n p x sent)) × (r ≤ 320) ⌝ }
+// The length of the leader that a station keeps.
+fn kept_size(clock: bool, l: u8) -> usize
+    ensures { λ r. ⌜ (r ≡ length (keptOf clock l)) × (r ≤ 26) ⌝ }
 {
-    let numbers = decimal_size(sent as u64) + decimal_size(x.stable as u64);
-    who_size(p, x) + known_size(n, x) + numbers + 13
+    if clock { 7 } else { decimal_size(l as u64) + 6 }
+}
+
+// The length of the line of station p.
+fn line_size(clock: bool, n: usize, p: u8, x: Station, sent: u32) -> usize
+    requires { ⌜ n ≤ 8 ⌝ }
+    ensures { λ r. ⌜ (r ≡ length (stationLine clock n p x sent)) × (r ≤ 320) ⌝ }
+{
+    let rest = decimal_size(sent as u64) + kept_size(clock, x.stable);
+    who_size(p, x) + known_size(clock, n, x) + rest + 7
 }
 
 // The length of the lines of the first n stations.
-fn lines_size(n: usize, stations: [Station; 8], sent: [u32; 8]) -> usize
+fn lines_size(clock: bool, n: usize, stations: [Station; 8], sent: [u32; 8]) -> usize
     requires { ⌜ n ≤ 8 ⌝ }
-    ensures { λ r. ⌜ (r ≡ length (stationLines n stations sent)) × (r ≤ 2560) ⌝ }
+    ensures { λ r. ⌜ (r ≡ length (stationLines clock n stations sent)) × (r ≤ 2560) ⌝ }
 {
     let mut size = 0;
     for k in 0..n {
         let p = k as u8 + 1;
-        size += line_size(n, p, stations[k], sent[k]);
+        size += line_size(clock, n, p, stations[k], sent[k]);
     }
     size
 }
@@ -94,11 +123,11 @@ fn verdict_size(v: Verdict) -> usize
 // The length of the listing of a system whose verdict is v.
 pub(crate) fn listing_size(s: System, v: Verdict) -> usize
     requires { ⌜ s .n ≤ 8 ⌝ }
-    ensures { λ r. ⌜ r ≡ length (listingWith (s .n) (s .tick) (s .stations) (s .sent) v) ⌝ }
+    ensures { λ r. ⌜ r ≡ length (listingWith (s .clock) (s .n) (s .tick) (s .stations) (s .sent) v) ⌝ }
 {
     let n = s.n as usize;
     let stations = s.stations;
     let sent = s.sent;
     let tick = decimal_size(s.tick as u64);
-    tick + lines_size(n, stations, sent) + verdict_size(v) + 6
+    tick + lines_size(s.clock, n, stations, sent) + verdict_size(v) + 6
 }

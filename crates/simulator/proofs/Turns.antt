@@ -44,7 +44,7 @@ use Rattle.decision.proofs.Decisions.{decided-by, numbered, refused-number, tak
 
 -- the command is a report
 abbrev pub isReport : Command → Bool
-isReport (SetUp n period) = false
+isReport (SetUp clock n period) = false
 isReport (Start p) = false
 isReport (Crash p) = false
 isReport (Link p q d) = false
@@ -62,32 +62,33 @@ report-byte s bytes t =
     let (w, t₂) = passed (within 1 (getD bytes 0 0) lastCommand) _ 0 t₁ in
     seven (ℕ-discrete (getD bytes 0 0) 7) w
   where
-    tree : (a b c d e f g : Bool) → Command
-    tree a b c d e f g =
+    tree : (a b c d e f g k : Bool) → Command
+    tree a b c d e f g k =
         let x : ℕ = getD bytes 1 0 in
         let y : ℕ = getD bytes 2 0 in
         let z : ℕ = getD bytes 3 0 in
-        cond a (SetUp x y) (cond b (Start x) (cond c (Crash x) (cond d (Link x y z) (cond e (Run (x + 256 * y)) (cond f (Lose x y) (cond g (Rank x y) Report))))))
+        cond a (SetUp false x y) (cond b (Start x) (cond c (Crash x) (cond d (Link x y z) (cond e (Run (x + 256 * y)) (cond f (Lose x y) (cond g (Rank x y) (cond k (SetUp true x y) Report)))))))
 
-    other : (n : ℕ) → n ≢ 7 → within 1 n lastCommand ≡ true → (a b c d e f g : Bool) → eqb n 1 ≡ a → eqb n 2 ≡ b → eqb n 3 ≡ c → eqb n 4 ≡ d → eqb n 5 ≡ e → eqb n 6 ≡ f → eqb n 8 ≡ g → false ≡ isReport (tree a b c d e f g)
-    other n ne w true b c d e f g i₁ i₂ i₃ i₄ i₅ i₆ i₈ = refl
-    other n ne w false true c d e f g i₁ i₂ i₃ i₄ i₅ i₆ i₈ = refl
-    other n ne w false false true d e f g i₁ i₂ i₃ i₄ i₅ i₆ i₈ = refl
-    other n ne w false false false true e f g i₁ i₂ i₃ i₄ i₅ i₆ i₈ = refl
-    other n ne w false false false false true f g i₁ i₂ i₃ i₄ i₅ i₆ i₈ = refl
-    other n ne w false false false false false true g i₁ i₂ i₃ i₄ i₅ i₆ i₈ = refl
-    other n ne w false false false false false false true i₁ i₂ i₃ i₄ i₅ i₆ i₈ = refl
-    other n ne w false false false false false false false i₁ i₂ i₃ i₄ i₅ i₆ i₈ =
-        absurd (true≢false (sym w ∙ not-known n (eqb-false n 1 i₁) (eqb-false n 2 i₂) (eqb-false n 3 i₃) (eqb-false n 4 i₄) (eqb-false n 5 i₅) (eqb-false n 6 i₆) ne (eqb-false n 8 i₈)))
+    other : (n : ℕ) → n ≢ 7 → within 1 n lastCommand ≡ true → (a b c d e f g k : Bool) → eqb n 1 ≡ a → eqb n 2 ≡ b → eqb n 3 ≡ c → eqb n 4 ≡ d → eqb n 5 ≡ e → eqb n 6 ≡ f → eqb n 8 ≡ g → eqb n 9 ≡ k → false ≡ isReport (tree a b c d e f g k)
+    other n ne w true b c d e f g k i₁ i₂ i₃ i₄ i₅ i₆ i₈ i₉ = refl
+    other n ne w false true c d e f g k i₁ i₂ i₃ i₄ i₅ i₆ i₈ i₉ = refl
+    other n ne w false false true d e f g k i₁ i₂ i₃ i₄ i₅ i₆ i₈ i₉ = refl
+    other n ne w false false false true e f g k i₁ i₂ i₃ i₄ i₅ i₆ i₈ i₉ = refl
+    other n ne w false false false false true f g k i₁ i₂ i₃ i₄ i₅ i₆ i₈ i₉ = refl
+    other n ne w false false false false false true g k i₁ i₂ i₃ i₄ i₅ i₆ i₈ i₉ = refl
+    other n ne w false false false false false false true k i₁ i₂ i₃ i₄ i₅ i₆ i₈ i₉ = refl
+    other n ne w false false false false false false false true i₁ i₂ i₃ i₄ i₅ i₆ i₈ i₉ = refl
+    other n ne w false false false false false false false false i₁ i₂ i₃ i₄ i₅ i₆ i₈ i₉ =
+        absurd (true≢false (sym w ∙ not-known n (eqb-false n 1 i₁) (eqb-false n 2 i₂) (eqb-false n 3 i₃) (eqb-false n 4 i₄) (eqb-false n 5 i₅) (eqb-false n 6 i₆) ne (eqb-false n 8 i₈) (eqb-false n 9 i₉)))
 
     seven : Dec (getD bytes 0 0 ≡ 7) → within 1 (getD bytes 0 0) lastCommand ≡ true → eqb (getD bytes 0 0) 7 ≡ isReport (decode bytes)
     seven (yes e) w = eq-eqb (getD bytes 0 0) 7 e ∙ sym (ap isReport (report-read bytes e))
-    seven (no ne) w = ne-eqb (getD bytes 0 0) 7 ne ∙ other (getD bytes 0 0) ne w _ _ _ _ _ _ _ refl refl refl refl refl refl refl
+    seven (no ne) w = ne-eqb (getD bytes 0 0) 7 ne ∙ other (getD bytes 0 0) ne w _ _ _ _ _ _ _ _ refl refl refl refl refl refl refl refl
 
 -- what is decided from a layout's values and the bytes that are lent is decided of its system
 pub decided-of : (s : Layout) (bytes : List ℕ) (at k : ℕ) (d : Decision) → sound (systemOf s) ≡ true
     → (k < 8) × (getD (take (length bytes - at) (drop at bytes)) 1 0 ≤ 8 → getD (take (length bytes - at) (drop at bytes)) 1 0 - 1 ≡ k)
-    → ((z : System) → sound z ≡ true → Sees z (s .ready) (s .n) (s .tick) (getD (s .stations) k noStation) (take (length bytes - at) (drop at bytes))
+    → ((z : System) → sound z ≡ true → Sees z (s .ready) (s .clock) (s .n) (s .tick) (getD (s .stations) k noStation) (take (length bytes - at) (drop at bytes))
     → meaning z d ≡ decided (ruling z (take (length bytes - at) (drop at bytes))) (decode (take (length bytes - at) (drop at bytes))))
     → meaning (systemOf s) d ≡ decided (ruling (systemOf s) (drop at bytes)) (decode (drop at bytes))
 decided-of s bytes at k d ok named told =

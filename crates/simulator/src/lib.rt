@@ -42,7 +42,7 @@ pub fn command(s: System, bytes: &[u8]) -> Commanded
         return refused(Refusal::Unsound, s);
     }
     let k = named(bytes);
-    let d = decide(s.ready, s.n, s.tick, s.stations[k], bytes);
+    let d = decide(s.ready, s.clock, s.n, s.tick, s.stations[k], bytes);
     if let Decision::Refused(why) = d {
         return refused(why, s);
     }

@@ -12,13 +12,13 @@ use decision::none_started;
 use decision::widths::width;
 use election::PLACES;
 use election::Refusal;
+use heads::start;
 use layout::Layout;
 use layout::rules::place_of;
 use layout::rules::set_up;
 use layout::rules::unused;
 use listing::rules::write_listing;
 use station::rules::crash;
-use station::rules::start;
 use ticks::rules::run;
 
 // Where going on with a schedule stops: before a report that has no room left, at the schedule's end, or before a refused command.
@@ -56,7 +56,7 @@ pub fn go_on(mut s: Layout, from: usize, bytes: &[u8], list: bool, buffer: &mut 
     let mut quiet = 0u32;
     while at < bytes.len() {
         let k = named(&bytes[at..]);
-        let d = decide(s.ready, s.n, s.tick, s.stations[k], &bytes[at..]);
+        let d = decide(s.ready, s.clock, s.n, s.tick, s.stations[k], &bytes[at..]);
         match d {
             Decision::Refused(why) => {
                 return Onward {
@@ -66,13 +66,13 @@ pub fn go_on(mut s: Layout, from: usize, bytes: &[u8], list: bool, buffer: &mut 
                     system: s,
                 };
             }
-            Decision::SetUp { n, period } => {
-                s = set_up(n, ticks_of(period));
+            Decision::SetUp { clock, n, period } => {
+                s = set_up(clock, n, ticks_of(period));
                 quiet = 0;
             }
             Decision::Start(p) => {
                 let place = (p - 1) as usize;
-                s.stations[place] = start(p, s.n, s.period, s.tick, s.stations[place]);
+                s.stations[place] = start(s.clock, p, s.n, s.period, s.tick, s.stations[place]);
                 quiet = 0; // a send chance is to come
             }
             Decision::Crash(p) => {
@@ -128,7 +128,14 @@ pub fn go_on(mut s: Layout, from: usize, bytes: &[u8], list: bool, buffer: &mut 
                     }
                     let stations = s.stations;
                     let sent = s.sent;
-                    size += write_listing(s.n, s.tick, stations, sent, &mut buffer[size..]);
+                    size += write_listing(
+                        s.clock,
+                        s.n,
+                        s.tick,
+                        stations,
+                        sent,
+                        &mut buffer[size..],
+                    );
                 }
             }
         }

@@ -3,6 +3,7 @@
 ghost use mathlib.Core.Path.{_≡_};
 ghost use Prim.Native.Nat.{_+_, _<_, _≤_};
 ghost use Rattle.lists.specs.Test.{allTo};
+ghost use Rattle.election.specs.Heads.{rankedOf};
 ghost use Rattle.election.specs.System.{places, isLink};
 ghost use Rattle.election.specs.Sound.{emptyStation, emptyMessage, messageIn, beforeSlot, messagePlace, apart, spaced, placesIn, ordered, linkIn, emptyPlaces, linkPlace, stationPlace, placeIn, stationIn, sound};
 use election::Link;
@@ -12,9 +13,10 @@ use election::System;
 use fit::LONGEST_DELAY;
 use fit::cleared;
 use fit::counts_in;
-use fit::fit;
 use fit::ranks_in;
 use fit::wide;
+use heads::content_in;
+use heads::fits;
 use station::LAST_TICK;
 use station::Station;
 
@@ -42,16 +44,16 @@ fn empty_message(m: Message) -> bool
     ensures { λ r. ⌜ r ≡ emptyMessage m ⌝ }
 {
     let v = m.counts;
-    (m.sent == 0) & (m.due == 0) & counts_in(0, v)
+    (m.sent == 0) & (m.due == 0) & (counts_in(0, v) & (m.stamp == 0))
 }
 
-// Whether a message's ticks and counts are in range.
-fn message_in(n: u8, tick: u32, m: Message) -> bool
-    ensures { λ r. ⌜ r ≡ messageIn n tick m ⌝ }
+// Whether a message's ticks and what it carries are in range.
+fn message_in(clock: bool, n: u8, period: u32, tick: u32, m: Message) -> bool
+    ensures { λ r. ⌜ r ≡ messageIn clock n period tick m ⌝ }
 {
-    let v = m.counts;
     let last = later(m.sent, LONGEST);
-    (m.sent <= tick) & (tick < m.due) & (wide(m.due) <= last) & counts_in(n, v)
+    let content = content_in(clock, n, period, tick, m);
+    (m.sent <= tick) & (tick < m.due) & (wide(m.due) <= last) & content
 }
 
 // Whether an up sender's next send chance is at least a period after the sending.
@@ -64,24 +66,32 @@ fn before_slot(period: u32, sender: Station, m: Message) -> bool
 }
 
 // Whether a place of a link holds a message if it is used, and else is zero.
-fn message_place(n: u8, period: u32, tick: u32, sender: Station, used: bool, m: Message) -> bool
-    ensures { λ r. ⌜ r ≡ messagePlace n period tick sender used m ⌝ }
+fn message_place(
+    clock: bool,
+    n: u8,
+    period: u32,
+    tick: u32,
+    sender: Station,
+    used: bool,
+    m: Message,
+) -> bool
+    ensures { λ r. ⌜ r ≡ messagePlace clock n period tick sender used m ⌝ }
 {
     if used {
-        message_in(n, tick, m) & before_slot(period, sender, m)
+        message_in(clock, n, period, tick, m) & before_slot(period, sender, m)
     } else {
         empty_message(m)
     }
 }
 
 // Whether all places of a link hold messages as far as they are used, and are zero beyond.
-fn places_in(n: u8, period: u32, tick: u32, sender: Station, l: Link) -> bool
-    ensures { λ r. ⌜ r ≡ placesIn n period tick sender l ⌝ }
+fn places_in(clock: bool, n: u8, period: u32, tick: u32, sender: Station, l: Link) -> bool
+    ensures { λ r. ⌜ r ≡ placesIn clock n period tick sender l ⌝ }
 {
     let ms = l.messages;
     for k in 0..PLACES {
         let used = k < l.used as usize;
-        if !message_place(n, period, tick, sender, used, ms[k]) {
+        if !message_place(clock, n, period, tick, sender, used, ms[k]) {
             return false;
         }
     }
@@ -123,13 +133,13 @@ fn ordered(period: u32, l: Link) -> bool
 }
 
 // Whether a link between two stations is in range.
-fn link_in(n: u8, period: u32, tick: u32, sender: Station, l: Link) -> bool
-    ensures { λ r. ⌜ r ≡ linkIn n period tick sender l ⌝ }
+fn link_in(clock: bool, n: u8, period: u32, tick: u32, sender: Station, l: Link) -> bool
+    ensures { λ r. ⌜ r ≡ linkIn clock n period tick sender l ⌝ }
 {
     if FULL < l.used {
         return false;
     }
-    places_in(n, period, tick, sender, l) & ordered(period, l)
+    places_in(clock, n, period, tick, sender, l) & ordered(period, l)
 }
 
 // Whether all places of a link are zero.
@@ -155,6 +165,7 @@ fn is_link(n: u8, p: u8, q: u8) -> bool
 
 // Whether the place of the link from p to q is in range, with its delay and sender.
 fn link_place(
+    clock: bool,
     n: u8,
     period: u32,
     tick: u32,
@@ -165,24 +176,24 @@ fn link_place(
     l: Link,
 ) -> bool
     requires { ⌜ (1 ≤ p) × (1 ≤ q) ⌝ }
-    ensures { λ r. ⌜ r ≡ linkPlace n period tick p q delay sender l ⌝ }
+    ensures { λ r. ⌜ r ≡ linkPlace clock n period tick p q delay sender l ⌝ }
 {
     if is_link(n, p, q) {
         // every byte is a delay
-        link_in(n, period, tick, sender, l)
+        link_in(clock, n, period, tick, sender, l)
     } else {
         (delay == 0) & (l.used == 0) & empty_places(l)
     }
 }
 
 // Whether a place of the stations is in range, with its sent count.
-fn station_place(n: u8, period: u32, tick: u32, k: u8, x: Station, sent: u32) -> bool
+fn station_place(clock: bool, n: u8, period: u32, tick: u32, k: u8, x: Station, sent: u32) -> bool
     requires { ⌜ k < 8 ⌝ }
-    ensures { λ r. ⌜ r ≡ stationPlace n period tick k x sent ⌝ }
+    ensures { λ r. ⌜ r ≡ stationPlace clock n period tick k x sent ⌝ }
 {
     let most = 7 * wide(tick);
     if k < n {
-        fit(k + 1, n, period, tick, x) & (wide(sent) <= most)
+        fits(clock, k + 1, n, period, tick, x) & (wide(sent) <= most)
     } else {
         empty_station(x) & (sent == 0)
     }
@@ -193,7 +204,15 @@ fn stations_in(s: System) -> bool
     ensures { λ r. ⌜ r ≡ allTo 8 (stationIn s) ⌝ }
 {
     for k in 0..8 {
-        if !station_place(s.n, s.period, s.tick, k as u8, s.stations[k], s.sent[k]) {
+        if !station_place(
+            s.clock,
+            s.n,
+            s.period,
+            s.tick,
+            k as u8,
+            s.stations[k],
+            s.sent[k],
+        ) {
             return false;
         }
     }
@@ -210,6 +229,7 @@ fn links_in(s: System) -> bool
         let from = p as u8 + 1;
         let to = q as u8 + 1;
         if !link_place(
+            s.clock,
             s.n,
             s.period,
             s.tick,
@@ -225,6 +245,13 @@ fn links_in(s: System) -> bool
     true
 }
 
+// How many stations may have a rank: none of clock heads.
+fn ranked_of(clock: bool, n: u8) -> u8
+    ensures { λ r. ⌜ r ≡ rankedOf clock n ⌝ }
+{
+    if clock { 0 } else { n }
+}
+
 // Whether a system is sound.
 pub fn sound(s: System) -> bool
     ensures { λ r. ⌜ r ≡ sound s ⌝ }
@@ -236,5 +263,5 @@ pub fn sound(s: System) -> bool
         & ((16 <= s.period) & (s.period <= 255))
         & (s.tick <= LAST_TICK);
     let ranks = s.ranks;
-    numbers & stations_in(s) & links_in(s) & ranks_in(s.n, ranks)
+    numbers & stations_in(s) & links_in(s) & ranks_in(ranked_of(s.clock, s.n), ranks)
 }

@@ -10,12 +10,12 @@ use lib.ListN.{length, getD, set}
 use lib.Seq.{set-getD, getD-set-same}
 use borrow.Author.Count.{below-more}
 use borrow.Author.Tests.{le-ltb, eq-eqb, ne-eqb, eqb-false, not-true}
-use Rattle.election.specs.Heads.{slotting}
+use Rattle.clock.specs.Rules.{carried}
+use Rattle.election.specs.Heads.{slottingOf, slotting}
 use Rattle.lists.specs.Entries.{firsts}
 use Rattle.lists.proofs.Bools.{both, cond-yes, cond-no}
 use Rattle.lists.proofs.Entries.{firsts-zero, firsts-turn, firsts-beyond, firsts-idle, length-firsts}
-use Rattle.station.specs.Limits.{lastTick}
-use Rattle.station.specs.Rules.{slotted}
+use Rattle.station.specs.Limits.{lastTick, longest}
 use Rattle.station.specs.declared.Station.{Station}
 use Rattle.election.specs.Idle.{quietStation, quietLink}
 use Rattle.election.specs.System.{noStation, noLink, from, to, messages, holding, isLink, withLinks, withStations, withSent, renewed, places}
@@ -31,17 +31,17 @@ use Rattle.ticks.specs.Sending.{sentOver, sendsNow}
 
 -- the station at place k sends LEADER
 abbrev pub sendsAt : ℕ → System → ℕ → Bool
-sendsAt now m k = sendsNow (k + 1) now (getD (m .stations) k noStation)
+sendsAt now m k = sendsNow (m .clock) (k + 1) now (getD (m .stations) k noStation)
 
 -- what stands at place k after the tick: station, sent count, link
 unfoldable pub stationAfter : ℕ → System → ℕ → Station
-stationAfter now m k = slottedNow (slotting m now) now (getD (m .stations) k noStation)
+stationAfter now m k = slottedNow (slotting m (k + 1) now) now (getD (m .stations) k noStation)
 
 unfoldable pub sentAfter : ℕ → System → ℕ → ℕ
 sentAfter now m k = cond (sendsAt now m k) (getD (m .sent) k 0 + (m .n - 1)) (getD (m .sent) k 0)
 
 abbrev pub newLink : ℕ → System → ℕ → ℕ → Link
-newLink now m p k = holding (messages (getD (m .links) k noLink) ++ sentOver now (sendsAt now m p) (getD (m .delays) k 0) (getD (m .stations) p noStation .recovered))
+newLink now m p k = holding (messages (getD (m .links) k noLink) ++ sentOver now (sendsAt now m p) (getD (m .delays) k 0) (getD (m .stations) p noStation))
 
 unfoldable pub linkAfter : ℕ → ℕ → System → ℕ → Link
 linkAfter n now m k = cond (isLink n (from k) (to k)) (newLink now m (k / 8) k) (getD (m .links) k noLink)
@@ -62,7 +62,8 @@ pub record Mid (n now : ℕ) (m : System) : Type 0 where
   pub sent-long : length (m .sent) ≡ 8
   pub links-long : length (m .links) ≡ 64
   pub sent-low : (p : ℕ) → p < n → getD (m .sent) p 0 ≤ 7000000
-  pub room : (p q : ℕ) → p < n → q < n → (p ≡ q → ⊥) → length (messages (getD (m .links) (8 * p + q) noLink) ++ sentOver now (sendsAt now m p) (getD (m .delays) (8 * p + q) 0) (getD (m .stations) p noStation .recovered)) ≤ places
+  pub safe : (p : ℕ) → p < n → getD (m .stations) p noStation .slot ≡ now → getD (m .stations) p noStation .timeout ≤ longest lastTick
+  pub room : (p q : ℕ) → p < n → q < n → (p ≡ q → ⊥) → length (messages (getD (m .links) (8 * p + q) noLink) ++ sentOver now (sendsAt now m p) (getD (m .delays) (8 * p + q) 0) (getD (m .stations) p noStation)) ≤ places
   pub held : (k : ℕ) → k < 64 → isLink n (from k) (to k) ≡ true → holding (messages (getD (m .links) k noLink)) ≡ getD (m .links) k noLink
 
 -- so far, and nothing of what is done, or was on a link before, is due after now and up to a tick
@@ -119,6 +120,10 @@ module _ (n now : ℕ) (m : System) (until : ℕ) (s : System) (p c k : ℕ) (a 
   pub part-period : s .period ≡ m .period
   unfolding sentTo
   part-period = ap (λ (x : System). x .period) (a .same)
+
+  pub part-clock : s .clock ≡ m .clock
+  unfolding sentTo
+  part-clock = ap (λ (x : System). x .clock) (a .same)
 
   -- a link is stored
   part-stores : (until′ : ℕ) (v : Link) → k < 64 → until′ ≤ until → v ≡ linkAfter n now m k → ((t : ℕ) → now < t → t ≤ until′ → quietLink t v ≡ true)
@@ -197,13 +202,13 @@ module _ (n now : ℕ) (m : System) (until : ℕ) (s : System) (p c k : ℕ) (a 
   unfolding sentTo
   part-long h = rw (a .same) (omega (arith, length-firsts p (stationAfter now m) (m .stations) (omega (arith, a .mid .stations-long)), a .mid .stations-long))
 
-  pub part-slots : (until′ : ℕ) (v : Station) (y : System) → p < 8 → until′ ≤ until → getD (s .stations) p noStation .slot ≡ now → v ≡ slotted (s .period) now (getD (s .stations) p noStation)
+  pub part-slots : (until′ : ℕ) (v : Station) (y : System) → p < 8 → until′ ≤ until → getD (s .stations) p noStation .slot ≡ now → v ≡ slottingOf (s .clock) (p + 1) (s .period) now (getD (s .stations) p noStation)
       → y ≡ withStations (set (s .stations) p v) s → ((t : ℕ) → now < t → t ≤ until′ → quietStation t (getD (y .stations) p noStation) ≡ true) → Part n now m until′ y (p + 1) c k
   unfolding stationAfter slottedNow
   part-slots until′ v y h le due e g calm =
       rw g
       (stationed until′ v h le
-      (e ∙ ap (λ (x : ℕ). slotted x now (getD (s .stations) p noStation)) part-period ∙ sym (cond-yes {b = eqb (getD (s .stations) p noStation .slot) now} _ _ (eq-eqb _ _ due)) ∙ ap (slottedNow (slotting m now) now) part-station)
+      (e ∙ ap (λ b. slottingOf b (p + 1) (s .period) now (getD (s .stations) p noStation)) part-clock ∙ ap (λ (x : ℕ). slottingOf (m .clock) (p + 1) x now (getD (s .stations) p noStation)) part-period ∙ sym (cond-yes {b = eqb (getD (s .stations) p noStation .slot) now} _ _ (eq-eqb _ _ due)) ∙ ap (slottedNow (slotting m (p + 1) now) now) part-station)
       (λ t b d. subst (λ x. quietStation t x ≡ true) (ap (λ (z : System). getD (z .stations) p noStation) g ∙ getD-set-same (s .stations) p v noStation (omega (arith, part-long (omega arith)))) (calm t b d)))
 
   pub part-waits : (until′ : ℕ) (y : System) → p < 8 → until′ ≤ until → (getD (s .stations) p noStation .slot ≡ now → ⊥) → y ≡ s → ((t : ℕ) → now < t → t ≤ until′ → quietStation t (getD (y .stations) p noStation) ≡ true)
@@ -212,7 +217,7 @@ module _ (n now : ℕ) (m : System) (until : ℕ) (s : System) (p c k : ℕ) (a 
   part-waits until′ y h le due g calm =
       rw (g, ← set-getD (s .stations) p noStation)
       (stationed until′ (getD (s .stations) p noStation) h le
-      (sym (cond-no {b = eqb (getD (s .stations) p noStation .slot) now} (slotted (m .period) now (getD (s .stations) p noStation)) (getD (s .stations) p noStation) (ne-eqb _ _ due)) ∙ ap (slottedNow (slotting m now) now) part-station)
+      (sym (cond-no {b = eqb (getD (s .stations) p noStation .slot) now} (slotting m (p + 1) now (getD (s .stations) p noStation)) (getD (s .stations) p noStation) (ne-eqb _ _ due)) ∙ ap (slottedNow (slotting m (p + 1) now) now) part-station)
       (λ t b d. subst (λ (z : System). quietStation t (getD (z .stations) p noStation) ≡ true) g (calm t b d)))
 
 -- places with no link
@@ -294,18 +299,18 @@ module _ (n now : ℕ) (m : System) (until : ℕ) (s : System) (p : ℕ) (hp : p
             ∙ ap (λ b. sendsAt now m p && b) (ap (λ b. not b && not (eqb d 0)) (sym (ne-eqb p q ne)) ∙ f) ∙ and-false (sendsAt now m p))
 
     -- a link over which a message is sent
-    module _ (d : ℕ) (e : d ≡ getD (s .delays) (8 * p + q) 0) (test : (not (eqb p q) && not (eqb d 0)) ≡ true) (sends : sendsAt now m p ≡ true) (counts : List ℕ) (ec : counts ≡ getD (m .stations) p noStation .recovered) where
+    module _ (d : ℕ) (e : d ≡ getD (s .delays) (8 * p + q) 0) (test : (not (eqb p q) && not (eqb d 0)) ≡ true) (sends : sendsAt now m p ≡ true) (counts : List ℕ) (ec : counts ≡ getD (m .stations) p noStation .recovered) (stamp : ℕ) (ez : stamp ≡ carried (getD (m .stations) p noStation)) where
       differ : p ≡ q → ⊥
       differ = eqb-false p q (not-true (eqb p q) (both (not (eqb p q)) (not (eqb d 0)) test .0))
 
       abbrev message : Message
-      message = record { sent = now; due = now + d; counts = counts }
+      message = record { sent = now; due = now + d; counts = counts; stamp = stamp }
 
-      message-is : sentOver now (sendsAt now m p) (getD (m .delays) (8 * p + q) 0) (getD (m .stations) p noStation .recovered) ≡ message ∷ []
+      message-is : sentOver now (sendsAt now m p) (getD (m .delays) (8 * p + q) 0) (getD (m .stations) p noStation) ≡ message ∷ []
       message-is =
-          ap (λ (x : ℕ). sentOver now (sendsAt now m p) x (getD (m .stations) p noStation .recovered)) (ap (λ (l : List ℕ). getD l (8 * p + q) 0) (sym (part-delays n now m until s p p (8 * p + q) a)) ∙ sym e)
-          ∙ ap (λ c. sentOver now (sendsAt now m p) d c) (sym ec)
+          ap (λ (x : ℕ). sentOver now (sendsAt now m p) x (getD (m .stations) p noStation)) (ap (λ (l : List ℕ). getD l (8 * p + q) 0) (sym (part-delays n now m until s p p (8 * p + q) a)) ∙ sym e)
           ∙ cond-yes _ _ (ap (λ b. b && not (eqb d 0)) sends ∙ both (not (eqb p q)) (not (eqb d 0)) test .1)
+          ∙ (λ i. record { sent = now; due = now + d; counts = sym ec i; stamp = sym ez i } ∷ [])
 
       link-is : getD (m .links) (8 * p + q) noLink ≡ getD (s .links) (8 * p + q) noLink
       link-is = sym (part-link n now m until s p p (8 * p + q) a)
@@ -313,7 +318,7 @@ module _ (n now : ℕ) (m : System) (until : ℕ) (s : System) (p : ℕ) (hp : p
       pub sent-room : length (messages (getD (s .links) (8 * p + q) noLink) ++ (message ∷ [])) ≤ places
       sent-room =
           subst (λ ms. length (messages (getD (s .links) (8 * p + q) noLink) ++ ms) ≤ places) message-is
-          (subst (λ l. length (messages l ++ sentOver now (sendsAt now m p) (getD (m .delays) (8 * p + q) 0) (getD (m .stations) p noStation .recovered)) ≤ places) link-is (a .mid .room p q hp hq differ))
+          (subst (λ l. length (messages l ++ sentOver now (sendsAt now m p) (getD (m .delays) (8 * p + q) 0) (getD (m .stations) p noStation)) ≤ places) link-is (a .mid .room p q hp hq differ))
 
       pub sent-held : holding (messages (getD (s .links) (8 * p + q) noLink)) ≡ getD (s .links) (8 * p + q) noLink
       sent-held = subst (λ l. holding (messages l) ≡ l) link-is (a .mid .held (8 * p + q) k-low (linked n p q (a .mid .n-high) hp hq differ))

@@ -11,7 +11,8 @@ use lib.Seq.{ext-getD, set-getD, getD-set-same, getD-set-other}
 use borrow.Author.Tests.{ne-eqb}
 use Rattle.lists.proofs.Bools.{cond-yes, cond-no}
 use Rattle.lists.proofs.Entries.{firsts-get, firsts-beyond}
-use Rattle.station.specs.Rules.{expired, slotted}
+use Rattle.clock.specs.Rules.{carried as clockCarried}
+use Rattle.election.specs.Heads.{expiringOf, slottingOf}
 use Rattle.station.specs.declared.Station.{Station}
 use Rattle.layout.specs.Layout.{systemOf}
 use Rattle.layout.specs.declared.Layout.{Layout}
@@ -20,7 +21,7 @@ use Rattle.election.specs.Idle.{quietStation}
 use Rattle.election.specs.System.{noStation, places}
 use Rattle.election.specs.declared.System.{System}
 use Rattle.ticks.specs.Sending.{sendsNow, timerEnds}
-use Rattle.ticks.proofs.After.{Part, sendsAt, part-beyond, part-long, part-sent, part-n, part-period, part-row, part-rests, part-skips, part-counts, part-silent, part-slots, part-waits}
+use Rattle.ticks.proofs.After.{Part, sendsAt, part-beyond, part-long, part-sent, part-n, part-period, part-clock, part-row, part-rests, part-skips, part-counts, part-silent, part-slots, part-waits}
 use Rattle.ticks.proofs.Hearing.{endedAt, endedTo}
 use Rattle.ticks.proofs.Quiet.{Before}
 use Rattle.ticks.proofs.Sent.{place-free, message-sent}
@@ -40,15 +41,15 @@ chances-first n now until s long a =
     record { stations = endedTo n now (systemOf s) .stations; part = a; done = λ j h. absurd (omega arith); ended = λ j h i. absurd (omega arith); rest = λ j h. refl; long = long }
 
 -- a station whose send chance is not now does not send
-late-silent : (me now : ℕ) (x : Station) → (x .slot ≡ now → ⊥) → sendsNow me now x ≡ false
-late-silent me now x ne = rw (ne-eqb (x .slot) now ne, and-false (x .up))
+late-silent : (clock : Bool) (me now : ℕ) (x : Station) → (x .slot ≡ now → ⊥) → sendsNow clock me now x ≡ false
+late-silent clock me now x ne = rw (ne-eqb (x .slot) now ne, and-false (x .up))
 
 -- a timer due now ends, or it is not due
 module _ (n now : ℕ) (s₀ : System) (until : ℕ) (s : Layout) (p c k : ℕ) (a : Chances n now s₀ until s p p c k) (hp : p < n) (hn : n ≤ 8) where
   chances-heard : getD (s .stations) p noStation ≡ getD (s₀ .stations) p noStation
   chances-heard = a .rest p (omega arith)
 
-  ends : (y : Layout) (v : Station) → v ≡ endedAt now p (getD (s .stations) p noStation) → y ≡ withStations (set (s .stations) p v) s → Chances n now s₀ until y (p + 1) p c k
+  ends : (y : Layout) (v : Station) → v ≡ endedAt (s₀ .clock) now p (getD (s .stations) p noStation) → y ≡ withStations (set (s .stations) p v) s → Chances n now s₀ until y (p + 1) p c k
   ends y v e g =
       rw g
       (record {
@@ -62,12 +63,13 @@ module _ (n now : ℕ) (s₀ : System) (until : ℕ) (s : Layout) (p c k : ℕ) 
     where
       here : getD (set (s .stations) p v) p noStation ≡ getD (endedTo n now s₀ .stations) p noStation
       here =
-          getD-set-same (s .stations) p v noStation (omega (arith, a .long)) ∙ e ∙ ap (endedAt now p) chances-heard
-          ∙ sym (firsts-get n (λ k. endedAt now k (getD (s₀ .stations) k noStation)) (s₀ .stations) p noStation hp)
+          getD-set-same (s .stations) p v noStation (omega (arith, a .long)) ∙ e ∙ ap (endedAt (s₀ .clock) now p) chances-heard
+          ∙ sym (firsts-get n (λ k. endedAt (s₀ .clock) now k (getD (s₀ .stations) k noStation)) (s₀ .stations) p noStation hp)
 
-  chances-ends : (y : Layout) (v : Station) → timerEnds now (getD (s .stations) p noStation) ≡ true → v ≡ expired (p + 1) (getD (s .stations) p noStation) → y ≡ withStations (set (s .stations) p v) s
+  chances-ends : (y : Layout) (v : Station) → timerEnds now (getD (s .stations) p noStation) ≡ true → v ≡ expiringOf (s .clock) (p + 1) (getD (s .stations) p noStation) → y ≡ withStations (set (s .stations) p v) s
       → Chances n now s₀ until y (p + 1) p c k
-  chances-ends y v t e g = ends y v (e ∙ sym (cond-yes _ _ t)) g
+  chances-ends y v t e g =
+      ends y v (e ∙ ap (λ k. expiringOf k (p + 1) (getD (s .stations) p noStation)) (part-clock n now (endedTo n now s₀) until (systemOf (withStations (a .stations) s)) p c k (a .part)) ∙ sym (cond-yes _ _ t)) g
 
   chances-stays : (y : Layout) → timerEnds now (getD (s .stations) p noStation) ≡ false → y ≡ s → Chances n now s₀ until y (p + 1) p c k
   chances-stays y t g =
@@ -84,12 +86,15 @@ module _ (n now : ℕ) (s₀ : System) (until : ℕ) (s : Layout) (p c k : ℕ) 
   here-too : getD (a .stations) p noStation ≡ getD (s .stations) p noStation
   here-too = part-beyond n now m until (systemOf (withStations (a .stations) s)) p c k (a .part) p (omega arith) ∙ sym chances-station
 
+  pub chances-clock : s .clock ≡ m .clock
+  chances-clock = part-clock n now m until (systemOf (withStations (a .stations) s)) p c k (a .part)
+
   -- whether it sends
-  pub chances-says : (b : Bool) → b ≡ sendsNow (p + 1) now (getD (s .stations) p noStation) → b ≡ sendsAt now m p
-  chances-says b e = e ∙ ap (sendsNow (p + 1) now) chances-station
+  pub chances-says : (b : Bool) → b ≡ sendsNow (s .clock) (p + 1) now (getD (s .stations) p noStation) → b ≡ sendsAt now m p
+  chances-says b e = e ∙ ap (λ k. sendsNow k (p + 1) now (getD (s .stations) p noStation)) chances-clock ∙ ap (sendsNow (m .clock) (p + 1) now) chances-station
 
   pub chances-late : (getD (s .stations) p noStation .slot ≡ now → ⊥) → sendsAt now m p ≡ false
-  chances-late ne = sym (ap (sendsNow (p + 1) now) chances-station) ∙ late-silent (p + 1) now (getD (s .stations) p noStation) ne
+  chances-late ne = sym (ap (sendsNow (m .clock) (p + 1) now) chances-station) ∙ late-silent (m .clock) (p + 1) now (getD (s .stations) p noStation) ne
 
   -- the stations stay as they are
   carried : (until′ c′ k′ : ℕ) (y : Layout) → y .stations ≡ s .stations → Part n now m until′ (systemOf (withStations (a .stations) y)) p c′ k′ → Chances n now s₀ until′ y (p + 1) p c′ k′
@@ -122,7 +127,7 @@ module _ (n now : ℕ) (s₀ : System) (until : ℕ) (s : Layout) (p c k : ℕ) 
   chances-silent h silent = carried until (c + 1) k s refl (part-silent n now m until (systemOf (withStations (a .stations) s)) p c k (a .part) h silent)
 
   -- the next chance
-  chances-slots : (until′ : ℕ) (v : Station) (y : Layout) → p < 8 → until′ ≤ until → getD (s .stations) p noStation .slot ≡ now → v ≡ slotted (s .period) now (getD (s .stations) p noStation)
+  chances-slots : (until′ : ℕ) (v : Station) (y : Layout) → p < 8 → until′ ≤ until → getD (s .stations) p noStation .slot ≡ now → v ≡ slottingOf (s .clock) (p + 1) (s .period) now (getD (s .stations) p noStation)
       → y ≡ withStations (set (s .stations) p v) s → ((t : ℕ) → now < t → t ≤ until′ → quietStation t (getD (y .stations) p noStation) ≡ true) → Chances n now s₀ until′ y (p + 1) (p + 1) c k
   chances-slots until′ v y h le due e g calm =
       rw g
@@ -130,7 +135,7 @@ module _ (n now : ℕ) (s₀ : System) (until : ℕ) (s : Layout) (p c k : ℕ) 
         stations = set (a .stations) p v;
         part =
             part-slots n now m until (systemOf (withStations (a .stations) s)) p c k (a .part) until′ v (systemOf (withStations (set (a .stations) p v) s)) h le
-            (ap (λ (x : Station). x .slot) here-too ∙ due) (e ∙ ap (slotted (s .period) now) (sym here-too)) refl
+            (ap (λ (x : Station). x .slot) here-too ∙ due) (e ∙ ap (slottingOf (s .clock) (p + 1) (s .period) now) (sym here-too)) refl
             (λ t b d. subst (λ x. quietStation t x ≡ true) (ap (λ (z : Layout). getD (z .stations) p noStation) g ∙ new ∙ sym new-too) (calm t b d));
         done = λ j i. at j i (ℕ-discrete j p);
         ended = λ j i l. absurd (omega arith);
@@ -180,19 +185,19 @@ module _ (n now : ℕ) (s₀ : System) (until : ℕ) (s : Layout) (p : ℕ) (hp 
     pub chances-skips : (not (eqb p q) && not (eqb d 0)) ≡ false → Chances n now s₀ until s (p + 1) p p (8 * p + (q + 1))
     chances-skips f = carried n now s₀ until s p p (8 * p + q) a hp until p (8 * p + (q + 1)) s refl (part-skips n now (endedTo n now s₀) until (systemOf (withStations (a .stations) s)) p hp q hq (a .part) d ed f)
 
-    module _ (wide : Wide s) (test : (not (eqb p q) && not (eqb d 0)) ≡ true) (sends : sendsAt now (endedTo n now s₀) p ≡ true) (counts : List ℕ) (ec : counts ≡ getD (endedTo n now s₀ .stations) p noStation .recovered)
+    module _ (wide : Wide s) (test : (not (eqb p q) && not (eqb d 0)) ≡ true) (sends : sendsAt now (endedTo n now s₀) p ≡ true) (counts : List ℕ) (ec : counts ≡ getD (endedTo n now s₀ .stations) p noStation .recovered) (stamp : ℕ) (ez : stamp ≡ clockCarried (getD (endedTo n now s₀ .stations) p noStation))
         (u : ℕ) (e : u ≡ getD (s .used) (8 * p + q) 0) where
       still : Wide (withStations (a .stations) s)
       still = record { used = wide .used; messages = wide .messages }
 
       pub chances-free : u < places
-      chances-free = place-free n now (endedTo n now s₀) until (withStations (a .stations) s) p q hp hq (a .part) still d ed test sends counts ec u e
+      chances-free = place-free n now (endedTo n now s₀) until (withStations (a .stations) s) p q hp hq (a .part) still d ed test sends counts ec stamp ez u e
 
-      pub chances-sends : (v until′ until₂ : ℕ) (y : Layout) → v ≡ u + 1 → y ≡ withUsed (set (s .used) (8 * p + q) v) (withMessages (set (s .messages) (places * (8 * p + q) + u) (record { sent = now; due = now + d; counts = counts })) s)
+      pub chances-sends : (v until′ until₂ : ℕ) (y : Layout) → v ≡ u + 1 → y ≡ withUsed (set (s .used) (8 * p + q) v) (withMessages (set (s .messages) (places * (8 * p + q) + u) (record { sent = now; due = now + d; counts = counts; stamp = stamp })) s)
           → until₂ ≡ until′ → until′ ≤ until → Before now (now + d) until′ → Chances n now s₀ until₂ y (p + 1) p p (8 * p + (q + 1))
       chances-sends v until′ until₂ y c g t le before =
           carried n now s₀ until s p p (8 * p + q) a hp until₂ p (8 * p + (q + 1)) y (ap (λ (z : Layout). z .stations) g)
-          (message-sent n now (endedTo n now s₀) until (withStations (a .stations) s) p q hp hq (a .part) still d ed test sends counts ec u e v until′ until₂ (withStations (a .stations) y) c (ap (withStations (a .stations)) g) t le before)
+          (message-sent n now (endedTo n now s₀) until (withStations (a .stations) s) p q hp hq (a .part) still d ed test sends counts ec stamp ez u e v until′ until₂ (withStations (a .stations) y) c (ap (withStations (a .stations)) g) t le before)
 
 -- all stations are done
 pub chances-done : (n now : ℕ) (s₀ : System) (until : ℕ) (s : Layout) (p : ℕ) → Chances n now s₀ until s p p p (8 * p) → p ≡ n → n ≤ 8 → Part n now (endedTo n now s₀) until (systemOf s) n n (8 * n)
@@ -210,7 +215,7 @@ chances-done n now s₀ until s p a z hn =
         at j (no h) =
             let e : n + (j - n) ≡ j = omega arith in
             part-beyond n now (endedTo n now s₀) until (systemOf (withStations (a .stations) s)) p p (8 * p) (a .part) j (omega arith)
-            ∙ (rw e at (firsts-beyond n (j - n) (λ k. endedAt now k (getD (s₀ .stations) k noStation)) (s₀ .stations) noStation)) ∙ sym (a .rest j (omega arith))
+            ∙ (rw e at (firsts-beyond n (j - n) (λ k. endedAt (s₀ .clock) now k (getD (s₀ .stations) k noStation)) (s₀ .stations) noStation)) ∙ sym (a .rest j (omega arith))
 
 -- the same with what the code keeps beside: a bound, full arrays and the marks
 pub record Turn (n now : ℕ) (s₀ : System) (end until : ℕ) (s : Layout) (busy : List Bool) (e p c k : ℕ) : Type 0 where
@@ -222,7 +227,7 @@ pub record Turn (n now : ℕ) (s₀ : System) (end until : ℕ) (s : Layout) (bu
 module _ (n now : ℕ) (s₀ : System) (end until : ℕ) (s : Layout) (busy : List Bool) (p : ℕ) (hp : p < n) (hn : n ≤ 8) where
   -- its timer
   module _ (a : Turn n now s₀ end until s busy p p p (8 * p)) where
-    pub turn-ends : (y : Layout) (v : Station) → timerEnds now (getD (s .stations) p noStation) ≡ true → v ≡ expired (p + 1) (getD (s .stations) p noStation) → y ≡ withStations (set (s .stations) p v) s
+    pub turn-ends : (y : Layout) (v : Station) → timerEnds now (getD (s .stations) p noStation) ≡ true → v ≡ expiringOf (s .clock) (p + 1) (getD (s .stations) p noStation) → y ≡ withStations (set (s .stations) p v) s
         → Turn n now s₀ end until y busy (p + 1) p p (8 * p)
     turn-ends y v t e g =
         record {
@@ -267,7 +272,7 @@ module _ (n now : ℕ) (s₀ : System) (end until : ℕ) (s : Layout) (busy : Li
   -- and goes on
   module _ (c k : ℕ) (a : Turn n now s₀ end until s busy (p + 1) p c k) (until₁ until′ : ℕ) (y : Layout) (busy′ : List Bool) (u : until₁ ≡ until) (le : until′ ≤ until₁) (b : busy′ ≡ busy)
       (calm : (t : ℕ) → now < t → t ≤ until′ → quietStation t (getD (y .stations) p noStation) ≡ true) where
-    pub turn-slots : (x v : Station) → x ≡ getD (endedTo n now s₀ .stations) p noStation → x .slot ≡ now → v ≡ slotted (s .period) now (getD (s .stations) p noStation) → y ≡ withStations (set (s .stations) p v) s
+    pub turn-slots : (x v : Station) → x ≡ getD (endedTo n now s₀ .stations) p noStation → x .slot ≡ now → v ≡ slottingOf (s .clock) (p + 1) (s .period) now (getD (s .stations) p noStation) → y ≡ withStations (set (s .stations) p v) s
         → Turn n now s₀ end until′ y busy′ (p + 1) (p + 1) c k
     turn-slots x v h due e g =
         rw b

@@ -8,7 +8,7 @@ use native.Mathlib.Omega.{arith}
 use lib.Dec.{ltb, eqb}
 use lib.ListN.{length, getD, take}
 use borrow.Author.Tests.{eqb-true, lt-ltb, le-ltb}
-use Rattle.election.specs.Heads.{hearing, expiring}
+use Rattle.election.specs.Heads.{expiringOf, hearing, expiring}
 use Rattle.lists.specs.Entries.{firsts}
 use Rattle.lists.specs.Fold.{each}
 use Rattle.lists.proofs.Bools.{both, cond-yes, cond-no, cond-elim}
@@ -16,7 +16,6 @@ use Rattle.lists.proofs.Entries.{upTo-same, firsts-cond}
 use Rattle.lists.proofs.Fold.{each-turn}
 use Rattle.station.specs.Order.{entry}
 use Rattle.station.specs.Limits.{lastTick, longest}
-use Rattle.station.specs.Rules.{expired}
 use Rattle.station.specs.declared.Station.{Station}
 use Rattle.election.specs.System.{noStation, noLink, messages, underway, withLinks, withStations}
 use Rattle.election.specs.Tick.{heardAll, expiredNow, settled}
@@ -60,9 +59,11 @@ module _ (s : System) (p q : ℕ) where
   unfolding now-at all-heard
   heardFrom-up = rw heard-is (cond-elim (λ (y : Station). y .up ≡ now-at .up) (now-at .up) (λ u. heardAll-unchanged s q (p + 1) (s .tick + 1) (λ j. underway s j (p + 1)) now-at .up) (λ u. refl))
 
-  heardFrom-timeouts : heardFrom s p q .timeouts ≡ getD (s .stations) p noStation .timeouts
+  heardFrom-timeouts : (heardFrom s p q .timeouts ≡ getD (s .stations) p noStation .timeouts) × (heardFrom s p q .timeout ≡ getD (s .stations) p noStation .timeout)
   unfolding now-at all-heard
-  heardFrom-timeouts = rw heard-is (cond-elim (λ (y : Station). y .timeouts ≡ now-at .timeouts) (now-at .up) (λ u. heardAll-timeouts s q (p + 1) (s .tick + 1) (λ j. underway s j (p + 1)) now-at) (λ u. refl))
+  heardFrom-timeouts =
+      rw heard-is
+      (cond-elim (λ (y : Station). (y .timeouts ≡ now-at .timeouts) × (y .timeout ≡ now-at .timeout)) (now-at .up) (λ u. heardAll-timeouts s q (p + 1) (s .tick + 1) (λ j. underway s j (p + 1)) now-at) (λ u. (refl, refl)))
 
   heard-up : getD (s .stations) p noStation .up ≡ true → heardFrom s p q ≡ all-heard
   unfolding now-at
@@ -74,7 +75,7 @@ module _ (s : System) (p q : ℕ) where
 
 -- after the last sender a timer due now ends
 module _ (s : System) (p : ℕ) (e : Station) (h : e ≡ heardFrom s p (s .n)) where
-  settled-is : cond (timerEnds (s .tick + 1) e) (expired (p + 1) e) e ≡ settled s (p + 1)
+  settled-is : cond (timerEnds (s .tick + 1) e) (expiring s (p + 1) e) e ≡ settled s (p + 1)
   unfolding settled expiredNow all-heard now-at
   settled-is =
       let z : p ≡ p + 1 - 1 = omega arith in
@@ -85,15 +86,15 @@ module _ (s : System) (p : ℕ) (e : Station) (h : e ≡ heardFrom s p (s .n)) w
       all = all-heard s p (s .n)
 
       go : (b : Bool) → getD (s .stations) p noStation .up ≡ b
-          → cond (timerEnds (s .tick + 1) e) (expired (p + 1) e) e ≡ cond b (cond (eqb (all .timer) (s .tick + 1)) (expired (p + 1) all) all) (getD (s .stations) p noStation)
+          → cond (timerEnds (s .tick + 1) e) (expiring s (p + 1) e) e ≡ cond b (cond (eqb (all .timer) (s .tick + 1)) (expiring s (p + 1) all) all) (getD (s .stations) p noStation)
       go true u =
-          ap (λ x. cond (timerEnds (s .tick + 1) x) (expired (p + 1) x) x) (h ∙ heard-up s p (s .n) u)
-          ∙ ap (λ b. cond (b && eqb (all .timer) (s .tick + 1)) (expired (p + 1) all) all) (ap (λ (x : Station). x .up) (sym (heard-up s p (s .n) u)) ∙ heardFrom-up s p (s .n) ∙ u)
+          ap (λ x. cond (timerEnds (s .tick + 1) x) (expiring s (p + 1) x) x) (h ∙ heard-up s p (s .n) u)
+          ∙ ap (λ b. cond (b && eqb (all .timer) (s .tick + 1)) (expiring s (p + 1) all) all) (ap (λ (x : Station). x .up) (sym (heard-up s p (s .n) u)) ∙ heardFrom-up s p (s .n) ∙ u)
       go false d =
-          ap (λ x. cond (timerEnds (s .tick + 1) x) (expired (p + 1) x) x) (h ∙ heard-down s p (s .n) d)
-          ∙ ap (λ b. cond (b && eqb (getD (s .stations) p noStation .timer) (s .tick + 1)) (expired (p + 1) (getD (s .stations) p noStation)) (getD (s .stations) p noStation)) d
+          ap (λ x. cond (timerEnds (s .tick + 1) x) (expiring s (p + 1) x) x) (h ∙ heard-down s p (s .n) d)
+          ∙ ap (λ b. cond (b && eqb (getD (s .stations) p noStation .timer) (s .tick + 1)) (expiring s (p + 1) (getD (s .stations) p noStation)) (getD (s .stations) p noStation)) d
 
-  ends-safely : Ticking s → p < s .n → timerEnds (s .tick + 1) e ≡ true → (1 ≤ e .leader) × (e .leader ≤ 8) × (entry (e .timeouts) (e .leader) ≤ longest lastTick)
+  ends-safely : Ticking s → p < s .n → timerEnds (s .tick + 1) e ≡ true → (1 ≤ e .leader) × (e .leader ≤ 8) × (entry (e .timeouts) (e .leader) ≤ longest lastTick) × (e .timeout ≤ longest lastTick)
   unfolding heardAll all-heard now-at
   ends-safely t hp i =
       let (u, d) = both (e .up) (eqb (e .timer) (s .tick + 1)) i in
@@ -139,10 +140,13 @@ module _ (r : System) (n p q : ℕ) (s : System) (a : Hearing r n p q s) where
   hearing-tick = ap (λ (z : System). z .tick + 1) (a .same)
 
   -- what hearing is given
-  pub hearing-ready : Ticking r → p < n → n ≡ r .n → q < r .n → (x : Station) → x .timeouts ≡ getD (s .stations) p noStation .timeouts → (r .tick + 1 ≤ lastTick) × (entry (x .timeouts) (q + 1) ≤ longest lastTick)
-  hearing-ready t hp z hq x e =
+  pub hearing-ready : Ticking r → p < n → n ≡ r .n → q < r .n → (x : Station) → x .timeouts ≡ getD (s .stations) p noStation .timeouts → x .timeout ≡ getD (s .stations) p noStation .timeout
+      → (r .tick + 1 ≤ lastTick) × (entry (x .timeouts) (q + 1) ≤ longest lastTick) × (x .timeout ≤ longest lastTick)
+  hearing-ready t hp z hq x e f =
       let hp′ : p < r .n = omega arith in
-      (omega (arith, t .room), timeout-at r t p q hp′ hq x (e ∙ ap (λ (z : Station). z .timeouts) (a .waits p (omega arith) hp) ∙ heardFrom-timeouts r p q))
+      let (more, one) = heardFrom-timeouts r p q in
+      let (low, own) = timeout-at r t p q hp′ hq x (e ∙ ap (λ (z : Station). z .timeouts) (a .waits p (omega arith) hp) ∙ more) (f ∙ ap (λ (z : Station). z .timeout) (a .waits p (omega arith) hp) ∙ one) in
+      (omega (arith, t .room), low, own)
 
   -- past the last receiver
   pub hearing-row : p ≡ n → Hearing r n 0 (q + 1) s
@@ -178,12 +182,12 @@ module _ (r : System) (n p q : ℕ) (s : System) (a : Hearing r n p q s) where
         at j h i (no z) = a .heard j (omega arith) i
 
 -- the station at place p after (b), if x is it after (a)
-abbrev pub endedAt : ℕ → ℕ → Station → Station
-endedAt now p x = cond (timerEnds now x) (expired (p + 1) x) x
+abbrev pub endedAt : Bool → ℕ → ℕ → Station → Station
+endedAt clock now p x = cond (timerEnds now x) (expiringOf clock (p + 1) x) x
 
 -- the system whose n stations are after (b)
 abbrev pub endedTo : ℕ → ℕ → System → System
-endedTo n now s = withStations (firsts n (λ k. endedAt now k (getD (s .stations) k noStation)) (s .stations)) s
+endedTo n now s = withStations (firsts n (λ k. endedAt (s .clock) now k (getD (s .stations) k noStation)) (s .stations)) s
 
 -- after the last sender
 module _ (r : System) (n q : ℕ) (s : System) (a : Hearing r n 0 q s) (z : q ≡ n) (size : r .n ≡ n) where
@@ -191,7 +195,7 @@ module _ (r : System) (n q : ℕ) (s : System) (a : Hearing r n 0 q s) (z : q �
   heard-all j h = a .waits j (omega arith) h ∙ ap (heardFrom r j) (z ∙ sym size)
 
   -- a timer that is due can end
-  pub timer-ready : Ticking r → (p : ℕ) → p < n → (x : Station) → x ≡ getD (s .stations) p noStation → timerEnds (r .tick + 1) x ≡ true → (1 ≤ x .leader) × (x .leader ≤ 8) × (entry (x .timeouts) (x .leader) ≤ longest lastTick)
+  pub timer-ready : Ticking r → (p : ℕ) → p < n → (x : Station) → x ≡ getD (s .stations) p noStation → timerEnds (r .tick + 1) x ≡ true → (1 ≤ x .leader) × (x .leader ≤ 8) × (entry (x .timeouts) (x .leader) ≤ longest lastTick) × (x .timeout ≤ longest lastTick)
   timer-ready t p hp x e = ends-safely r p x (e ∙ heard-all p hp) t (omega arith)
 
   -- and where all have ended, stations are settled
@@ -203,9 +207,12 @@ module _ (r : System) (n q : ℕ) (s : System) (a : Hearing r n 0 q s) (z : q �
       ∙ upTo-same 8 _ _ (λ k h. at k (decLt k n)) ∙ sym (firsts-cond n 8 f (s .stations) noStation (a .long) hn))
       ∙ ap (λ (y : System). withLinks (s .links) (withStations (firsts n f (s .stations)) y)) (sym (a .same))
     where
+      kind : s .clock ≡ r .clock
+      kind = ap (λ (z : System). z .clock) (a .same)
+
       f : ℕ → Station
-      f k = endedAt (r .tick + 1) k (getD (s .stations) k noStation)
+      f k = endedAt (s .clock) (r .tick + 1) k (getD (s .stations) k noStation)
 
       at : (k : ℕ) → Dec (k < n) → cond (ltb k n) (settled r (k + 1)) (getD (r .stations) k noStation) ≡ cond (ltb k n) (f k) (getD (s .stations) k noStation)
-      at k (yes h) = rw (lt-ltb k n h) (sym (settled-is r k (getD (s .stations) k noStation) (heard-all k h)))
+      at k (yes h) = rw (lt-ltb k n h) (sym (settled-is r k (getD (s .stations) k noStation) (heard-all k h)) ∙ ap (λ c. endedAt c (r .tick + 1) k (getD (s .stations) k noStation)) (sym kind))
       at k (no h) = rw (le-ltb k n (omega arith)) (sym (a .others k (omega arith)))

@@ -213,26 +213,28 @@ module _ (s : Layout) (k u : ℕ) (wide : Wide s) (hk : k < 64) (e : u ≡ getD 
 pub record Heard (s : System) (me q now : ℕ) (ms : List Message) (x₀ x : Station) (i : ℕ) : Type 0 where
   pub up : x .up ≡ x₀ .up
   pub timeouts : x .timeouts ≡ x₀ .timeouts
+  pub timeout : x .timeout ≡ x₀ .timeout
   pub is : x ≡ hears (hearing s) me q now (take i ms) x₀
 
 pub heard-first : (s : System) (me q now : ℕ) (ms : List Message) (x : Station) → Heard s me q now ms x x 0
 unfolding hears heardLink
-heard-first s me q now ms x = record { up = refl; timeouts = refl; is = cond-elim (λ y. x ≡ y) (x .up) (λ u. refl) (λ u. refl) }
+heard-first s me q now ms x = record { up = refl; timeouts = refl; timeout = refl; is = cond-elim (λ y. x ≡ y) (x .up) (λ u. refl) (λ u. refl) }
 
 heard-next : (s : System) (me q now : ℕ) (ms : List Message) (x₀ x y : Station) (i : ℕ) (m : Message) → Heard s me q now ms x₀ x i → i < length ms → m ≡ getD ms i noMessage
     → y ≡ cond (eqb (m .due) now && x .up) (hearing s me q m now x) x → Heard s me q now ms x₀ y (i + 1)
 unfolding hears
 heard-next s me q now ms x₀ x y i m a h e g = go (x₀ .up) refl
   where
-    kept : (b : Bool) → (cond b (hearing s me q m now x) x .up ≡ x .up) × (cond b (hearing s me q m now x) x .timeouts ≡ x .timeouts)
-    kept true = (hearing-unchanged s me q m now x .up, hearing-timeouts s me q m now x)
-    kept false = (refl, refl)
+    kept : (b : Bool) → (cond b (hearing s me q m now x) x .up ≡ x .up) × (cond b (hearing s me q m now x) x .timeouts ≡ x .timeouts) × (cond b (hearing s me q m now x) x .timeout ≡ x .timeout)
+    kept true = let (more, one) = hearing-timeouts s me q m now x in (hearing-unchanged s me q m now x .up, more, one)
+    kept false = (refl, refl, refl)
 
     go : (b : Bool) → x₀ .up ≡ b → Heard s me q now ms x₀ y (i + 1)
     go b u =
         record {
           up = ap (λ (z : Station). z .up) g ∙ kept (eqb (m .due) now && x .up) .0 ∙ a .up;
           timeouts = ap (λ (z : Station). z .timeouts) g ∙ kept (eqb (m .due) now && x .up) .1 ∙ a .timeouts;
+          timeout = ap (λ (z : Station). z .timeout) g ∙ kept (eqb (m .due) now && x .up) .2 ∙ a .timeout;
           is = at b u;
         }
       where

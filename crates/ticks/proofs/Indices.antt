@@ -9,10 +9,10 @@ use Rattle.station.specs.Limits.{lastTick}
 
 -- the bytes that a station and a message take in memory
 abbrev stationBytes : ℕ
-stationBytes = 68
+stationBytes = 80
 
 abbrev messageBytes : ℕ
-messageBytes = 24
+messageBytes = 28
 
 -- a station, from 0
 pub record Number (p : ℕ) : Type 0 where

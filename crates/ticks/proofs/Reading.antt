@@ -52,7 +52,7 @@ module _ (q p k now : ℕ) (s₀ s : Layout) (until to i : ℕ) (a : Reading q p
     reading-hears v long up e g =
         record {
           packing = packing-drops now k s₀ s until to i (a .packing) hk hi m u to′ (set (s .stations) p v) y refl d g z t;
-          heard = heard-due (systemOf s₀) (p + 1) (q + 1) now _ _ _ _ i m (a .heard) within same d up (ap (λ (x : Layout). getD (x .stations) p noStation) g ∙ getD-set-same (s .stations) p v noStation long ∙ e ∙ ap (λ hear. hear (p + 1) (q + 1) m now (getD (s .stations) p noStation)) (hearing-same (systemOf s) (systemOf s₀) (ap (λ (x : Layout). x .ranks) (a .packing .same))));
+          heard = heard-due (systemOf s₀) (p + 1) (q + 1) now _ _ _ _ i m (a .heard) within same d up (ap (λ (x : Layout). getD (x .stations) p noStation) g ∙ getD-set-same (s .stations) p v noStation long ∙ e ∙ ap (λ hear. hear (p + 1) (q + 1) m now (getD (s .stations) p noStation)) (hearing-same (systemOf s) (systemOf s₀) (ap (λ (x : Layout). x .clock) (a .packing .same)) (ap (λ (x : Layout). x .ranks) (a .packing .same))));
           beside = subst (λ (x : Layout). Beside p (s₀ .stations) (x .stations)) (sym g) (beside-stores p _ _ v (a .beside));
         }
 

@@ -214,7 +214,7 @@ module _ (n now p q : ℕ) (hn : n ≤ 8) (hp : p < n) (hq : q < n) (x s₁ s₂
         (ap (withLinks (r .links)) stored ∙ ap (λ (w : System). system.withStations (s₁ .stations) w) (b .same) ∙ ap (λ xs. system.withStations xs r) (sym stations-are))
         (ap length stations-are ∙ side .long ∙ b .long) (λ j ne. ap (λ xs. getD xs j noStation) stations-are ∙ side .others j ne) tick
         (ap (λ xs. getD xs p noStation) stations-are ∙ h .is
-        ∙ ap (λ hear. hears hear (p + 1) (q + 1) now (take u (part (x .messages) (8 * q + p))) (getD (x .stations) p noStation)) (hearing-same (systemOf x) r (ap (λ (w : System). w .ranks) (b .same)))
+        ∙ ap (λ hear. hears hear (p + 1) (q + 1) now (take u (part (x .messages) (8 * q + p))) (getD (x .stations) p noStation)) (hearing-same (systemOf x) r (ap (λ (w : System). w .clock) (b .same)) (ap (λ (w : System). w .ranks) (b .same)))
         ∙ ap (λ ms. hears (hearing r) (p + 1) (q + 1) now ms (getD (x .stations) p noStation)) (sym (messages-read x (8 * q + p) k-low u e) ∙ ap messages (taken-old n now r until (systemOf x .links) p q hn hp hq a)))
 
 -- one passed over

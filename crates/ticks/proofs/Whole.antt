@@ -8,6 +8,7 @@ use native.Mathlib.Omega.{arith}
 use lib.Dec.{ltb}
 use lib.ListN.{length, getD}
 use borrow.Author.Tests.{lt-ltb, le-ltb}
+use Rattle.station.specs.Limits.{lastTick, longest}
 use Rattle.election.specs.Heads.{slotting}
 use Rattle.lists.proofs.Entries.{upTo-same, firsts-get, firsts-beyond, firsts-cond, firsts-idle, length-firsts}
 use Rattle.lists.proofs.Test.{all-of}
@@ -24,7 +25,7 @@ use Rattle.election.proofs.TickSound.{after-few}
 use Rattle.ticks.specs.Sending.{Ticking, sentOver, sendsNow}
 use Rattle.ticks.proofs.After.{no-sender, unlinked, linked, sendsAt, stationAfter, sentAfter, newLink, linkAfter, sentTo, Mid, Part, part-none}
 use Rattle.ticks.proofs.Hearing.{settledTo, Hearing, endedTo, settled-all}
-use Rattle.ticks.proofs.Ready.{is, sent-at}
+use Rattle.ticks.proofs.Ready.{is, sent-at, chance-safe}
 use Rattle.ticks.proofs.Taken.{linkKept, kept-yes, kept-no, Taken, taken-links, taken-calm}
 
 -- the system after (a) and (b), its links without what was due now
@@ -46,8 +47,8 @@ module _ (s : System) (ticking : Ticking s) (held : Held s) (ls : List Link) (lo
       rw e at (firsts-beyond (s .n) (k - s .n) (λ k. settled s (k + 1)) (s .stations) noStation)
 
   sends-is : (k : ℕ) → k < s .n → sendsAt now mid k ≡ sending s (k + 1)
-  unfolding sending now
-  sends-is k h = ap (sendsNow (k + 1) (s .tick + 1)) (mid-at k h)
+  unfolding sending settledTo mid now
+  sends-is k h = ap (sendsNow (s .clock) (k + 1) (s .tick + 1)) (mid-at k h)
 
   mid-long : length (mid .stations) ≡ 8
   unfolding settledTo mid
@@ -64,15 +65,15 @@ module _ (s : System) (ticking : Ticking s) (held : Held s) (ls : List Link) (lo
     kept-messages : messages (getD ls k noLink) ≡ later (s .tick + 1) (messages (getD (s .links) k noLink))
     kept-messages = ap messages kept-is ∙ messages-held (later (s .tick + 1) (messages (getD (s .links) k noLink)))
 
-    after-is : messages (getD ls k noLink) ++ sentOver (s .tick + 1) (sendsAt (s .tick + 1) mid (k / 8)) (getD (s .delays) k 0) (getD (mid .stations) (k / 8) noStation .recovered) ≡ underwayAfter s (from k) (to k)
+    after-is : messages (getD ls k noLink) ++ sentOver (s .tick + 1) (sendsAt (s .tick + 1) mid (k / 8)) (getD (s .delays) k 0) (getD (mid .stations) (k / 8) noStation) ≡ underwayAfter s (from k) (to k)
     unfolding sent now
     after-is =
         let (hp, hq, ne) = link-of (s .n) (from k) (to k) (omega arith) (omega arith) i in
         let l : k / 8 < s .n = omega (arith, hp .high) in
-        ap (λ ms. ms ++ sentOver (s .tick + 1) (sendsAt (s .tick + 1) mid (k / 8)) (getD (s .delays) k 0) (getD (mid .stations) (k / 8) noStation .recovered)) kept-messages
-        ∙ ap (λ b. later (s .tick + 1) (messages (getD (s .links) k noLink)) ++ sentOver (s .tick + 1) b (getD (s .delays) k 0) (getD (mid .stations) (k / 8) noStation .recovered)) (sends-is (k / 8) l)
-        ∙ ap (λ (x : Station). later (s .tick + 1) (messages (getD (s .links) k noLink)) ++ sentOver (s .tick + 1) (sending s (from k)) (getD (s .delays) k 0) (x .recovered)) (mid-at (k / 8) l)
-        ∙ ap (λ x. later (s .tick + 1) (messages (getD (s .links) x noLink)) ++ sentOver (s .tick + 1) (sending s (from k)) (getD (s .delays) x 0) (settled s (from k) .recovered)) (sym (place-of k h))
+        ap (λ ms. ms ++ sentOver (s .tick + 1) (sendsAt (s .tick + 1) mid (k / 8)) (getD (s .delays) k 0) (getD (mid .stations) (k / 8) noStation)) kept-messages
+        ∙ ap (λ b. later (s .tick + 1) (messages (getD (s .links) k noLink)) ++ sentOver (s .tick + 1) b (getD (s .delays) k 0) (getD (mid .stations) (k / 8) noStation)) (sends-is (k / 8) l)
+        ∙ ap (λ (x : Station). later (s .tick + 1) (messages (getD (s .links) k noLink)) ++ sentOver (s .tick + 1) (sending s (from k)) (getD (s .delays) k 0) x) (mid-at (k / 8) l)
+        ∙ ap (λ x. later (s .tick + 1) (messages (getD (s .links) x noLink)) ++ sentOver (s .tick + 1) (sending s (from k)) (getD (s .delays) x 0) (settled s (from k))) (sym (place-of k h))
 
   mid-ready : Mid (s .n) (s .tick + 1) (withLinks ls (settledTo s (s .n)))
   unfolding settledTo mid
@@ -87,11 +88,12 @@ module _ (s : System) (ticking : Ticking s) (held : Held s) (ls : List Link) (lo
         sent-long = held .sent;
         links-long = long;
         sent-low = λ p h. sent-at s ticking p h .2;
+        safe = λ p h due. subst (λ (x : Station). x .timeout ≤ longest lastTick) (sym (mid-at p h)) (chance-safe s ticking p h (ap (λ (x : Station). x .slot) (sym (mid-at p h)) ∙ due));
         room = λ p q hp hq ne.
             let h : 8 * p + q < 64 = omega (arith, is s ticking .n-high) in
             let z : (8 * p + q) / 8 ≡ p = omega (arith, is s ticking .n-high) in
             let i : isLink (s .n) (from (8 * p + q)) (to (8 * p + q)) ≡ true = linked (s .n) p q (is s ticking .n-high) hp hq ne in
-            subst (λ j. length (messages (getD ls (8 * p + q) noLink) ++ sentOver (s .tick + 1) (sendsAt (s .tick + 1) mid j) (getD (s .delays) (8 * p + q) 0) (getD (mid .stations) j noStation .recovered)) ≤ places) z
+            subst (λ j. length (messages (getD ls (8 * p + q) noLink) ++ sentOver (s .tick + 1) (sendsAt (s .tick + 1) mid j) (getD (s .delays) (8 * p + q) 0) (getD (mid .stations) j noStation)) ≤ places) z
             (subst (λ ms. length ms ≤ places) (sym (after-is (8 * p + q) h i)) (link-few (8 * p + q) h i));
         held = λ k h i. subst (λ l. holding (messages l) ≡ l) (sym (kept-is k h i)) (ap holding (messages-held (later (s .tick + 1) (messages (getD (s .links) k noLink)))));
       }
@@ -106,7 +108,7 @@ module _ (s : System) (ticking : Ticking s) (held : Held s) (ls : List Link) (lo
       ∙ upTo-same 8 _ _ (λ k h. go k (decLt k (s .n)))
     where
       go : (k : ℕ) → Dec (k < s .n) → cond (ltb k (s .n)) (stationAfter now mid k) (getD (mid .stations) k noStation) ≡ seatNext s k
-      go k (yes l) = rw (lt-ltb k (s .n) l) (ap (slottedNow (slotting s (s .tick + 1)) (s .tick + 1)) (mid-at k l))
+      go k (yes l) = rw (lt-ltb k (s .n) l) (ap (slottedNow (slotting s (k + 1) (s .tick + 1)) (s .tick + 1)) (mid-at k l))
       go k (no l) = rw (le-ltb k (s .n) (omega arith)) (mid-beyond k (omega arith))
 
   sent-done : done .sent ≡ tick s .sent

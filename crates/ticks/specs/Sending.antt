@@ -6,9 +6,9 @@ use Prim.Native.Nat.{ℕ, _+_, _<_}
 use lib.Dec.{eqb}
 use Rattle.station.specs.Limits.{lastTick}
 use Rattle.station.specs.declared.Station.{Station}
-use Rattle.election.specs.Heads.{Hearing}
+use Rattle.election.specs.Heads.{Hearing, announcesOf}
 use Rattle.election.specs.Sound.{sound}
-use Rattle.election.specs.Tick.{heardLink}
+use Rattle.election.specs.Tick.{announced, heardLink}
 use Rattle.election.specs.declared.Message.{Message}
 use Rattle.election.specs.declared.System.{System}
 
@@ -26,10 +26,11 @@ hears hear me q now ms x = cond (x .up) (heardLink hear me q now ms x) x
 abbrev pub timerEnds : ℕ → Station → Bool
 timerEnds now x = x .up && eqb (x .timer) now
 
--- a message that is due a delay from now; none if nothing is sent, or the link is cut
-abbrev pub sentOver : ℕ → Bool → ℕ → List ℕ → List Message
-sentOver now sends delay counts = cond (sends && not (eqb delay 0)) (record { sent = now; due = now + delay; counts = counts } ∷ []) []
+-- a message of x, due a delay from now; none if nothing is sent, or the link is cut
+abbrev pub sentOver : ℕ → Bool → ℕ → Station → List Message
+sentOver now sends delay x =
+    cond (sends && not (eqb delay 0)) (announced now (now + delay) x ∷ []) []
 
 -- a station that has settled sends LEADER
-abbrev pub sendsNow : ℕ → ℕ → Station → Bool
-sendsNow me now x = x .up && eqb (x .slot) now && eqb (x .leader) me
+abbrev pub sendsNow : Bool → ℕ → ℕ → Station → Bool
+sendsNow clock me now x = x .up && eqb (x .slot) now && announcesOf clock me x

@@ -13,15 +13,13 @@ use crate::due::short_of;
 use crate::steps::sends_now;
 use crate::steps::sent_more;
 use crate::steps::timer_ends;
+use clock::rules::carried;
 use election::Message;
 use election::PLACES;
 use fit::least;
 use layout::Layout;
 use layout::rules::unused;
 use station::LAST_TICK;
-use station::rules::expire;
-use station::rules::hear;
-use station::rules::slot;
 
 // What a run leaves: the system, and a tick up to which each tick only raises the counter.
 pub struct Ran {
@@ -44,7 +42,7 @@ fn ticks_of(d: u8) -> u32
 
 // The system after t ticks, and a tick up to which nothing more is due. In a tick what is due is heard, sender by sender, past those
 // that have nothing under way; then each timer and each send chance that is due is done; then the counter goes on to `until`, up to which
-// nothing is due, or to the end of the run.
+// nothing is due, or to the end of the run. The kind of head is asked where a station is stored: one that a function chose would be copied first.
 pub fn run(t: u32, mut s: Layout) -> Ran
     requires { ⌜ (sound (systemOf s) ≡ true) × (s .ready ≡ true) × (s .tick + t ≤ lastTick) ⌝ }
     ensures { λ r. ⌜ systemOf (r .system) ≡ ticks t (systemOf s) ⌝ }
@@ -84,16 +82,29 @@ pub fn run(t: u32, mut s: Layout) -> Ran
                             } else {
                                 if s.stations[p].up {
                                     let m = s.messages[PLACES * k + i];
-                                    let v = m.counts;
-                                    let ranks = s.ranks;
-                                    s.stations[p] = hear(
-                                        ranks,
-                                        p as u8 + 1,
-                                        q as u8 + 1,
-                                        v,
-                                        now,
-                                        s.stations[p],
-                                    );
+                                    let x = s.stations[p];
+                                    let me = p as u8 + 1;
+                                    let from = q as u8 + 1;
+                                    if s.clock {
+                                        s.stations[p] = clock::rules::hear(
+                                            me,
+                                            from,
+                                            m.stamp,
+                                            now,
+                                            x,
+                                        );
+                                    } else {
+                                        let v = m.counts;
+                                        let ranks = s.ranks;
+                                        s.stations[p] = station::rules::hear(
+                                            ranks,
+                                            me,
+                                            from,
+                                            v,
+                                            now,
+                                            x,
+                                        );
+                                    }
                                 }
                             }
                         }
@@ -108,13 +119,20 @@ pub fn run(t: u32, mut s: Layout) -> Ran
         }
         for p in 0..n {
             if timer_ends(now, s.stations[p]) {
-                s.stations[p] = expire(p as u8 + 1, s.stations[p]);
+                let x = s.stations[p];
+                let me = p as u8 + 1;
+                if s.clock {
+                    s.stations[p] = clock::rules::expire(me, x);
+                } else {
+                    s.stations[p] = station::rules::expire(me, x);
+                }
             }
             if s.stations[p].slot == now {
-                if sends_now(p as u8 + 1, now, s.stations[p]) {
+                if sends_now(s.clock, p as u8 + 1, now, s.stations[p]) {
                     busy[p] = true;
                     let x = s.stations[p];
                     let counts = x.recovered;
+                    let stamp = carried(x);
                     for q in 0..n {
                         let k = 8 * p + q;
                         let d = ticks_of(s.delays[k]);
@@ -125,6 +143,7 @@ pub fn run(t: u32, mut s: Layout) -> Ran
                                 sent: now,
                                 due,
                                 counts,
+                                stamp,
                             };
                             s.used[k] = s.used[k] + 1;
                             until = short_of(now, due, until);
@@ -132,7 +151,12 @@ pub fn run(t: u32, mut s: Layout) -> Ran
                     }
                     s.sent[p] = sent_more(s.n, s.sent[p]);
                 }
-                s.stations[p] = slot(s.period, now, s.stations[p]);
+                let x = s.stations[p];
+                if s.clock {
+                    s.stations[p] = clock::rules::slot(p as u8 + 1, s.period, now, x);
+                } else {
+                    s.stations[p] = station::rules::slot(s.period, now, x);
+                }
             }
             until = quiet_station(now, s.stations[p], until);
         }

@@ -2,6 +2,7 @@
 ghost use mathlib.Core.Path.{_≡_};
 ghost use Prim.Native.Nat.{_+_, _-_, _≤_};
 ghost use Rattle.ticks.specs.Sending.{timerEnds, sendsNow};
+use heads::announces;
 use station::Station;
 
 // Whether the timer of an up station is due now.
@@ -12,10 +13,10 @@ pub(crate) fn timer_ends(now: u32, x: Station) -> bool
 }
 
 // Whether a station that has settled sends LEADER in this tick.
-pub(crate) fn sends_now(me: u8, now: u32, x: Station) -> bool
-    ensures { λ r. ⌜ r ≡ sendsNow me now x ⌝ }
+pub(crate) fn sends_now(clock: bool, me: u8, now: u32, x: Station) -> bool
+    ensures { λ r. ⌜ r ≡ sendsNow clock me now x ⌝ }
 {
-    x.up & (x.slot == now) & (x.leader == me)
+    x.up & (x.slot == now) & announces(clock, me, x)
 }
 
 // A sent count after a sending to all others.

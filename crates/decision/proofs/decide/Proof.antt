@@ -2,7 +2,7 @@
 use mathlib.Core.Path.{refl}
 use native.Mathlib.Omega.{arith}
 use lib.ListN.{getD}
-use Rattle.decision.proofs.Bytes.{no-bytes, too-few, unknown, understood, seen, not-known, enough, set-up-read, start-read, crash-read, link-read, run-read, lose-read, report-read, rank-read}
+use Rattle.decision.proofs.Bytes.{no-bytes, too-few, unknown, understood, seen, not-known, enough, set-up-read, start-read, crash-read, link-read, run-read, lose-read, report-read, rank-read, clock-read}
 use borrow.Author.Needs.{needs}
 use Rattle.decision.proofs.decide.Statement.{statement}
 use Rattle.decision.proofs.decide.Tie as tie
@@ -78,6 +78,16 @@ shared-slice-read-rank-2 c =
     let bytes = c .before .before .before .before .before .before .before .before .args .bytes .now in
     omega (arith, enough bytes (rank-read bytes (c .before .before .match .keys8)) (c .before .before .before .before .width .ensures) (c .before .before .before .if2 .left))
 
+shared-slice-read-set-up-3 : tie.Need-shared-slice-read-set-up-3
+shared-slice-read-set-up-3 c =
+    let bytes = c .before .before .before .before .before .before .before .args .bytes .now in
+    omega (arith, enough bytes (clock-read bytes (c .before .match .keys9)) (c .before .before .before .width .ensures) (c .before .before .if2 .left))
+
+shared-slice-read-set-up-4 : tie.Need-shared-slice-read-set-up-4
+shared-slice-read-set-up-4 c =
+    let bytes = c .before .before .before .before .before .before .before .before .args .bytes .now in
+    omega (arith, enough bytes (clock-read bytes (c .before .before .match .keys9)) (c .before .before .before .before .width .ensures) (c .before .before .before .if2 .left))
+
 returns-3 : tie.Need-returns-3
 returns-3 c s ok v =
     let bytes = c .before .before .before .before .before .before .before .before .before .args .bytes .now in
@@ -124,12 +134,18 @@ returns-10 : tie.Need-returns-10
 returns-10 c s ok v =
     let bytes = c .before .before .before .before .before .before .before .before .before .args .bytes .now in
     let is = rank-read bytes (c .before .before .before .match .keys8) in
-    understood s bytes is (rw (c .before .before .before .match .keys8) refl) (enough bytes is (c .before .before .before .before .before .width .ensures) (c .before .before .before .before .if2 .left)) (c .rank .ensures s (v .is-ready) (v .is-n))
+    understood s bytes is (rw (c .before .before .before .match .keys8) refl) (enough bytes is (c .before .before .before .before .before .width .ensures) (c .before .before .before .before .if2 .left)) (c .rank .ensures s (v .is-ready) (v .is-clock) (v .is-n))
 
 returns-11 : tie.Need-returns-11
 returns-11 c s ok v =
+    let bytes = c .before .before .before .before .before .before .before .before .before .args .bytes .now in
+    let is = clock-read bytes (c .before .before .before .match .keys9) in
+    understood s bytes is (rw (c .before .before .before .match .keys9) refl) (enough bytes is (c .before .before .before .before .before .width .ensures) (c .before .before .before .before .if2 .left)) (c .set-up2 .ensures s (v .is-ready))
+
+returns-12 : tie.Need-returns-12
+returns-12 c s ok v =
     let bytes = c .before .before .before .before .before .before .args .bytes .now in
-    unknown s bytes (omega (arith, c .before .before .before .before .if1 .left)) (not-known (getD bytes 0 0) (c .match .rest .0 .0 .0 .0 .0 .0 .0 .1) (c .match .rest .0 .0 .0 .0 .0 .0 .1) (c .match .rest .0 .0 .0 .0 .0 .1) (c .match .rest .0 .0 .0 .0 .1) (c .match .rest .0 .0 .0 .1) (c .match .rest .0 .0 .1) (c .match .rest .0 .1) (c .match .rest .1))
+    unknown s bytes (omega (arith, c .before .before .before .before .if1 .left)) (not-known (getD bytes 0 0) (c .match .rest .0 .0 .0 .0 .0 .0 .0 .0 .1) (c .match .rest .0 .0 .0 .0 .0 .0 .0 .1) (c .match .rest .0 .0 .0 .0 .0 .0 .1) (c .match .rest .0 .0 .0 .0 .0 .1) (c .match .rest .0 .0 .0 .0 .1) (c .match .rest .0 .0 .0 .1) (c .match .rest .0 .0 .1) (c .match .rest .0 .1) (c .match .rest .1))
 
 pub decide-spec : {M : Type 1} → statement M
 decide-spec =
@@ -161,6 +177,9 @@ decide-spec =
     shared-slice-read-rank
     shared-slice-read-rank-2
     (λ c κs. search needs)
+    shared-slice-read-set-up-3
+    shared-slice-read-set-up-4
+    (λ c κs. search needs)
     returns-3
     returns-4
     returns-5
@@ -169,4 +188,5 @@ decide-spec =
     returns-8
     returns-9
     returns-10
-    returns-11)
+    returns-11
+    returns-12)

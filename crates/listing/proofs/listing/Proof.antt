@@ -21,13 +21,13 @@ listing-size-requires : tie.Need-listing-size-requires
 listing-size-requires c κs = let s = c .before .before .before .before .before .before .before .before .args .s in sound-of s (holds (c .before .before .before .before .before .before .sound .ensures) (c .before .before .before .before .before .if1 .left)) (not-false (s .ready) (c .before .before .before .if2 .left)) .n-high
 
 returns-3 : tie.Need-returns-3
-returns-3 c = let s = c .before .before .before .before .before .before .before .before .before .before .args .s in short _ _ (holds (c .before .before .before .before .before .before .before .before .sound .ensures) (c .before .before .before .before .before .before .before .if1 .left)) (not-false (s .ready) (c .before .before .before .before .before .if2 .left)) (omega (arith, ap length (listing-is (s .n) (s .tick) (s .stations) (s .sent) _ (c .before .before .search .ensures))))
+returns-3 c = let s = c .before .before .before .before .before .before .before .before .before .before .args .s in short _ _ (holds (c .before .before .before .before .before .before .before .before .sound .ensures) (c .before .before .before .before .before .before .before .if1 .left)) (not-false (s .ready) (c .before .before .before .before .before .if2 .left)) (omega (arith, ap length (listing-is (s .clock) (s .n) (s .tick) (s .stations) (s .sent) _ (c .before .before .search .ensures))))
 
 put-listing-requires : tie.Need-put-listing-requires
 put-listing-requires c κs = let s = c .before .before .before .before .before .before .before .before .before .before .before .args .s in (sound-of s (holds (c .before .before .before .before .before .before .before .before .before .sound .ensures) (c .before .before .before .before .before .before .before .before .if1 .left)) (not-false (s .ready) (c .before .before .before .before .before .before .if2 .left)) .n-high, omega arith)
 
 returns-4 : tie.Need-returns-4
-returns-4 c = let s = c .before .before .before .before .before .before .before .before .before .before .before .before .before .before .args .s in done _ _ (holds (c .before .before .before .before .before .before .before .before .before .before .before .before .sound .ensures) (c .before .before .before .before .before .before .before .before .before .before .before .if1 .left)) (not-false (s .ready) (c .before .before .before .before .before .before .before .before .before .if2 .left)) (omega (arith, ap length (listing-is (s .n) (s .tick) (s .stations) (s .sent) _ (c .before .before .before .before .before .before .search .ensures)))) (rw (sym (listing-is (s .n) (s .tick) (s .stations) (s .sent) _ (c .before .before .before .before .before .before .search .ensures))) (c .before .before .put-listing .ensures))
+returns-4 c = let s = c .before .before .before .before .before .before .before .before .before .before .before .before .before .before .args .s in done _ _ (holds (c .before .before .before .before .before .before .before .before .before .before .before .before .sound .ensures) (c .before .before .before .before .before .before .before .before .before .before .before .if1 .left)) (not-false (s .ready) (c .before .before .before .before .before .before .before .before .before .if2 .left)) (omega (arith, ap length (listing-is (s .clock) (s .n) (s .tick) (s .stations) (s .sent) _ (c .before .before .before .before .before .before .search .ensures)))) (rw (sym (listing-is (s .clock) (s .n) (s .tick) (s .stations) (s .sent) _ (c .before .before .before .before .before .before .search .ensures))) (c .before .before .put-listing .ensures))
 
 pub listing-spec : {M : Type 1} → statement M
 listing-spec =

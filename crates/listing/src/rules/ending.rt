@@ -32,6 +32,7 @@ pub fn number_of(why: Refusal) -> u8
         Refusal::ScheduleLong => 21,
         Refusal::RankRange => 22,
         Refusal::AlreadyStarted => 23,
+        Refusal::ClockHeads => 25,
     }
 }
 

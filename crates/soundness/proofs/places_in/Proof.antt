@@ -17,10 +17,10 @@ use Rattle.soundness.proofs.places_in.Lts as lts
 use Rattle.soundness.proofs.message_place.Reads as message-place-reads
 
 abbrev Inv-loop : tie.InvT-loop
-Inv-loop n period tick sender l ms k₀ k = (k ≤ places) × (allTo k (λ i. messagePlace n period tick sender (ltb i (l .used)) (messageAt l i)) ≡ true)
+Inv-loop clock n period tick sender l ms k₀ k = (k ≤ places) × (allTo k (λ i. messagePlace clock n period tick sender (ltb i (l .used)) (messageAt l i)) ≡ true)
 
 abbrev μ-loop : tie.MeasureT-loop
-μ-loop n period tick sender l ms k₀ k = places - k
+μ-loop clock n period tick sender l ms k₀ k = places - k
 
 loop-holds : tie.Need-loop-holds Inv-loop μ-loop
 loop-holds c = (search needs, all-none _)

@@ -21,7 +21,7 @@ links-in-requires : tie.Need-links-in-requires
 links-in-requires c κs = search needs
 
 returns-2 : tie.Need-returns-2
-returns-2 c = rw (clauses (c .before .before .before .before .before .before .before .before .before .before .before .args .s) (not-false _ (c .before .before .before .before .before .before .before .before .before .if1 .left))) (cc)
+returns-2 c = rw (clauses (c .before .before .before .before .before .before .before .before .before .before .before .before .args .s) (not-false _ (c .before .before .before .before .before .before .before .before .before .before .if1 .left))) (cc)
 
 pub sound-spec : {M : Type 1} → statement M
-sound-spec = tie.close (tie.spec returns stations-in-requires links-in-requires (λ c κs. search needs) returns-2)
+sound-spec = tie.close (tie.spec returns stations-in-requires links-in-requires (λ c κs. search needs) (λ c κs. search needs) returns-2)

@@ -7,7 +7,7 @@ use Rattle.soundness.proofs.station_place.Tie as tie
 use Rattle.soundness.proofs.station_place.Reads as reads
 use Rattle.soundness.proofs.station_place.Lts as lts
 use Rattle.soundness.proofs.empty_station.Reads as empty-station-reads
-use Rattle.fit.proofs.fit.Reads as fit-reads
+use Rattle.heads.proofs.fits.Reads as fits-reads
 use Rattle.fit.proofs.wide.Reads as wide-reads
 
 wide-requires : tie.Need-wide-requires
@@ -16,11 +16,11 @@ wide-requires c κs = search needs
 mul-most : tie.Need-mul-most
 mul-most c = search needs
 
-add-fit : tie.Need-add-fit
-add-fit c = search needs
+add-fits : tie.Need-add-fits
+add-fits c = search needs
 
-fit-requires : tie.Need-fit-requires
-fit-requires c κs = search needs
+fits-requires : tie.Need-fits-requires
+fits-requires c κs = search needs
 
 wide-requires-2 : tie.Need-wide-requires-2
 wide-requires-2 c κs = search needs
@@ -41,8 +41,8 @@ station-place-spec =
     (tie.spec
     wide-requires
     mul-most
-    add-fit
-    fit-requires
+    add-fits
+    fits-requires
     wide-requires-2
     empty-station-requires
     returns

@@ -11,24 +11,24 @@ put-named-requires : tie.Need-put-named-requires
 unfolding ends
 put-named-requires c κs = omega (arith, simp length-append at (c .before .before .before .pre))
 
-sub-put-last : tie.Need-sub-put-last
+sub-put-kept : tie.Need-sub-put-kept
 unfolding ends
-sub-put-last c = room-at _ (c .before .before .before .before .put-named .ensures) (c .before .before .before .before .before .before .before .before .pre)
+sub-put-kept c = room-at _ (c .before .before .put-named .ensures) (c .before .before .before .before .before .before .pre)
 
-part-put-last-start : tie.Need-part-put-last-start
-part-put-last-start c = sub-put-last c
+part-put-kept-start : tie.Need-part-put-kept-start
+part-put-kept-start c = sub-put-kept c
 
-put-last-requires : tie.Need-put-last-requires
+put-kept-requires : tie.Need-put-kept-requires
 unfolding ends
-put-last-requires c κs = room-part _ (c .before .before .before .before .before .put-named .ensures) (c .before .before .before .before .before .before .before .before .before .pre)
+put-kept-requires c κs = room-part _ (c .before .before .before .put-named .ensures) (c .before .before .before .before .before .before .before .pre)
 
 add-result : tie.Need-add-result
 unfolding ends
-add-result c = let start = c .before .before .before .before .before .before .before .before .before .before .before .before in record { fits = ends-in (wrote-part (c .before .before .before .before .before .before .before .before .put-named .ensures) (c .before .before .put-last .ensures)) (start .pre) (start .good .1 .1 .0 .0) }
+add-result c = let start = c .before .before .before .before .before .before .before .before .before .before in record { fits = ends-in (wrote-part (c .before .before .before .before .before .before .put-named .ensures) (c .before .before .put-kept .ensures)) (start .pre) (start .good .1 .1 .1 .0 .0) }
 
 returns : tie.Need-returns
 unfolding ends
-returns c = wrote-part (c .before .before .before .before .before .before .before .before .put-named .ensures) (c .before .before .put-last .ensures)
+returns c = wrote-part (c .before .before .before .before .before .before .put-named .ensures) (c .before .before .put-kept .ensures)
 
 pub put-ends-spec : {M : Type 1} → statement M
 put-ends-spec =
@@ -36,12 +36,10 @@ put-ends-spec =
     (tie.spec
     (λ c. search needs)
     put-named-requires
+    sub-put-kept
+    part-put-kept-start
     (λ c. search needs)
-    (λ c. search needs)
-    sub-put-last
-    part-put-last-start
-    (λ c. search needs)
-    put-last-requires
+    put-kept-requires
     add-result
     (λ c. search needs)
     returns)

@@ -13,10 +13,10 @@ use Rattle.listing.proofs.rules.put_lines.Tie as tie
 use Rattle.listing.proofs.rules.put_lines.Statement.{statement}
 
 abbrev Inv-loop : tie.InvT-loop
-Inv-loop n buffer₀ stations sent at₀ k₀ buffer at k = (k ≤ n) × Wrote (joinTo k (λ i. stationLine n (i + 1) (getD stations i noStation) (getD sent i 0))) buffer₀ at buffer
+Inv-loop clock n buffer₀ stations sent at₀ k₀ buffer at k = (k ≤ n) × Wrote (joinTo k (λ i. stationLine clock n (i + 1) (getD stations i noStation) (getD sent i 0))) buffer₀ at buffer
 
 abbrev μ-loop : tie.MeasureT-loop
-μ-loop n buffer₀ stations sent at₀ k₀ buffer at k = n - k
+μ-loop clock n buffer₀ stations sent at₀ k₀ buffer at k = n - k
 
 loop-holds : tie.Need-loop-holds Inv-loop μ-loop
 loop-holds c = (search needs, join-none _ _)
@@ -34,7 +34,7 @@ put-line-requires c κs = (search needs, room-part _ (c .before .before .before 
 
 add-at : tie.Need-add-at Inv-loop μ-loop
 unfolding stationLines
-add-at c = let start = c .before .before .before .before .before .before .before .before in record { fits = ends-in (wrote-part (c .before .before .before .before .before .before .loop .inv .1) (c .before .before .put-line .ensures)) (join-room _ _ _ (c .before .before .before .before .before .loop-test .taken) (start .pre .1)) (start .good .1 .1 .1 .0 .0) }
+add-at c = let start = c .before .before .before .before .before .before .before .before in record { fits = ends-in (wrote-part (c .before .before .before .before .before .before .loop .inv .1) (c .before .before .put-line .ensures)) (join-room _ _ _ (c .before .before .before .before .before .loop-test .taken) (start .pre .1)) (start .good .1 .1 .1 .1 .0 .0) }
 
 loop-again : tie.Need-loop-again Inv-loop μ-loop
 loop-again c = (search needs, join-turn _ _ (c .before .before .before .before .before .before .loop .inv .1) (c .before .before .put-line .ensures))

@@ -7,19 +7,19 @@ use Rattle.listing.proofs.rules.put_listing.Tie as tie
 use Rattle.listing.proofs.rules.put_listing.Statement.{statement}
 
 put-last-requires : tie.Need-put-last-requires
-put-last-requires c κs = let start = c .before .before .before in room-tick _ _ _ _ _ (start .pre .1)
+put-last-requires c κs = let start = c .before .before .before in room-tick _ _ _ _ _ _ (start .pre .1)
 
 sub-put-lines : tie.Need-sub-put-lines
-sub-put-lines c = let start = c .before .before .before .before .before .before in room-at (stationLines (start .args .n) (start .args .stations) (start .args .sent)) (c .before .before .put-last .ensures) (room-two _ (verdictLine (start .args .v)) (c .before .before .put-last .ensures) (start .pre .1))
+sub-put-lines c = let start = c .before .before .before .before .before .before in room-at (stationLines (start .args .clock) (start .args .n) (start .args .stations) (start .args .sent)) (c .before .before .put-last .ensures) (room-two _ (verdictLine (start .args .v)) (c .before .before .put-last .ensures) (start .pre .1))
 
 part-put-lines-start : tie.Need-part-put-lines-start
 part-put-lines-start c = sub-put-lines c
 
 put-lines-requires : tie.Need-put-lines-requires
-put-lines-requires c κs = let start = c .before .before .before .before .before .before .before in (search needs, room-part (stationLines (start .args .n) (start .args .stations) (start .args .sent)) (c .before .before .before .put-last .ensures) (room-two _ (verdictLine (start .args .v)) (c .before .before .before .put-last .ensures) (start .pre .1)))
+put-lines-requires c κs = let start = c .before .before .before .before .before .before .before in (search needs, room-part (stationLines (start .args .clock) (start .args .n) (start .args .stations) (start .args .sent)) (c .before .before .before .put-last .ensures) (room-two _ (verdictLine (start .args .v)) (c .before .before .before .put-last .ensures) (start .pre .1)))
 
 add-b : tie.Need-add-b
-add-b c = let start = c .before .before .before .before .before .before .before .before .before .before in record { fits = ends-in (wrote-part (c .before .before .before .before .before .before .put-last .ensures) (c .before .before .put-lines .ensures)) (room-two _ (verdictLine (start .args .v)) (c .before .before .before .before .before .before .put-last .ensures) (start .pre .1)) (start .good .1 .1 .1 .1 .1 .0 .0) }
+add-b c = let start = c .before .before .before .before .before .before .before .before .before .before in record { fits = ends-in (wrote-part (c .before .before .before .before .before .before .put-last .ensures) (c .before .before .put-lines .ensures)) (room-two _ (verdictLine (start .args .v)) (c .before .before .before .before .before .before .put-last .ensures) (start .pre .1)) (start .good .1 .1 .1 .1 .1 .1 .0 .0) }
 
 sub-put-verdict : tie.Need-sub-put-verdict
 sub-put-verdict c = let start = c .before .before .before .before .before .before .before .before .before .before in room-at (verdictLine (start .args .v)) (wrote-part (c .before .before .before .before .before .before .put-last .ensures) (c .before .before .put-lines .ensures)) (start .pre .1)
@@ -31,7 +31,7 @@ put-verdict-requires : tie.Need-put-verdict-requires
 put-verdict-requires c κs = let start = c .before .before .before .before .before .before .before .before .before .before .before in room-part (verdictLine (start .args .v)) (wrote-part (c .before .before .before .before .before .before .before .put-last .ensures) (c .before .before .before .put-lines .ensures)) (start .pre .1)
 
 add-result : tie.Need-add-result
-add-result c = let start = c .before .before .before .before .before .before .before .before .before .before .before .before .before .before in record { fits = ends-in (wrote-part (wrote-part (c .before .before .before .before .before .before .before .before .before .before .put-last .ensures) (c .before .before .before .before .before .before .put-lines .ensures)) (c .before .before .put-verdict .ensures)) (start .pre .1) (start .good .1 .1 .1 .1 .1 .0 .0) }
+add-result c = let start = c .before .before .before .before .before .before .before .before .before .before .before .before .before .before in record { fits = ends-in (wrote-part (wrote-part (c .before .before .before .before .before .before .before .before .before .before .put-last .ensures) (c .before .before .before .before .before .before .put-lines .ensures)) (c .before .before .put-verdict .ensures)) (start .pre .1) (start .good .1 .1 .1 .1 .1 .1 .0 .0) }
 
 returns : tie.Need-returns
 returns c = wrote-part (wrote-part (c .before .before .before .before .before .before .before .before .before .before .put-last .ensures) (c .before .before .before .before .before .before .put-lines .ensures)) (c .before .before .put-verdict .ensures)

@@ -1,20 +1,18 @@
 -- The function search::search meets its contract.
-use mathlib.Core.Path.{sym, _∙_}
+use mathlib.Core.Path.{_∙_}
 use Prim.Native.Nat.{_-_, _≤_}
 use native.Mathlib.Omega.{arith}
 use lib.ListN.{length}
 use borrow.Author.Needs.{needs}
-use borrow.Author.Tests.{not-true, not-false}
-use Rattle.election.specs.Listing.{upAmong}
-use Rattle.listing.proofs.Scan.{Seen, seen-none, seen-turn, seen-split, seen-dark, seen-agreed, seen-agreed-dark, seats-few, leader-in, seen-all, up-all}
+use Rattle.listing.proofs.Scan.{Seen, seen-none, seen-turn, seen-split, seen-dark, seen-agreed, seen-agreed-dark, seats-few, seen-all, up-in, up-out}
 use Rattle.listing.proofs.search.search.Tie as tie
 use Rattle.listing.proofs.search.search.Statement.{statement}
 
 abbrev Inv-loop : tie.InvT-loop
-Inv-loop n stations most some₀ l₀ k₀ k-end some l k = (k ≤ most) × (most ≤ 8) × (most ≤ n) × Seen stations k some l
+Inv-loop n stations most l₀ k₀ k-end l k = (k ≤ most) × (most ≤ 8) × (most ≤ n) × Seen stations k l
 
 abbrev μ-loop : tie.MeasureT-loop
-μ-loop n stations most some₀ l₀ k₀ k-end some l k = most - k
+μ-loop n stations most l₀ k₀ k-end l k = most - k
 
 cast-k-end : tie.Need-cast-k-end Inv-loop μ-loop
 cast-k-end c = record { fits = omega (arith, seats-few (c .before .args .n) (c .seats .result) (c .seats .ensures) .0) }
@@ -23,37 +21,34 @@ loop-holds : tie.Need-loop-holds Inv-loop μ-loop
 loop-holds c = let (few, within) = seats-few (c .before .args .n) (c .seats .result) (c .seats .ensures) in (search needs, few, within, seen-none _)
 
 returns : tie.Need-returns Inv-loop μ-loop
-returns c = let now = c .before .before .before .before in seen-split _ _ _ _ (now .loop .inv .3) _ (omega (arith, c .before .before .before .loop-test .taken, now .loop .inv .2)) (rw (c .before .trusts .ensures) at (c .if1 .taken))
+returns c = let now = c .before .before .before .before .before in seen-split _ _ _ (now .loop .inv .3) _ (omega (arith, c .before .before .before .before .loop-test .taken, now .loop .inv .2)) (rw (c .before .before .leaderless .ensures, c .before .trusts .ensures) at (c .if1 .taken))
 
 loop-again : tie.Need-loop-again Inv-loop μ-loop
-loop-again c = let now = c .before .before .before .before .before .before in (search needs, now .loop .inv .1, now .loop .inv .2, rw (c .leader-after .ensures) (seen-turn _ _ _ _ (now .loop .inv .3) (rw (c .before .before .before .trusts .ensures) at (c .before .before .if1 .left))))
+loop-again c = let now = c .before .before .before .before .before .before in (search needs, now .loop .inv .1, now .loop .inv .2, rw (c .leader-after .ensures) (seen-turn _ _ _ (now .loop .inv .3) (rw (c .before .before .before .leaderless .ensures, c .before .before .trusts .ensures) at (c .before .if1 .left))))
 
 returns-2 : tie.Need-returns-2 Inv-loop μ-loop
-returns-2 c = let now = c .before .before in let start = now .before .before in let eight : length (start .args .t2) ≤ 8 = omega (arith, start .good .1 .0 .1 .0 .1) in let all = seen-all (start .args .n) _ _ eight (now .before .seats .ensures) _ _ _ (now .loop .inv .0) (c .before .loop-test .left) (now .loop .inv .3) in seen-dark _ _ _ _ all (not-true _ (c .if2 .taken))
+returns-2 c = let now = c .before .before in let start = now .before .before in let eight : length (start .args .t2) ≤ 8 = omega (arith, start .good .1 .0 .1 .0 .1) in let all = seen-all (start .args .n) _ _ eight (now .before .seats .ensures) _ _ (now .loop .inv .0) (c .before .loop-test .left) (now .loop .inv .3) in seen-dark _ _ _ all (c .if2 .taken)
 
 sub-leader : tie.Need-sub-leader Inv-loop μ-loop
-sub-leader c = let now = c .before .before .before in let (low, high) = leader-in (now .loop .l) (now .before .seats .result) (c .if3 .taken) (now .loop .inv .1) in omega (arith, low)
+sub-leader c = omega (arith, c .before .if2 .left)
 
 cast-leader : tie.Need-cast-leader Inv-loop μ-loop
-cast-leader c = let now = c .before .before .before in let (low, high) = leader-in (now .loop .l) (now .before .seats .result) (c .if3 .taken) (now .loop .inv .1) in record { fits = omega (arith, low, high) }
+cast-leader c = record { fits = omega (arith, c .before .if2 .left, c .if3 .taken, c .before .before .before .loop .inv .1) }
 
 mul-leader : tie.Need-mul-leader Inv-loop μ-loop
-mul-leader c = let now = c .before .before .before in let (low, high) = leader-in (now .loop .l) (now .before .seats .result) (c .if3 .taken) (now .loop .inv .1) in record { fits = omega (arith, low, high) }
+mul-leader c = record { fits = omega (arith, c .before .if2 .left, c .if3 .taken, c .before .before .before .loop .inv .1) }
 
 array-copy-out-leader : tie.Need-array-copy-out-leader Inv-loop μ-loop
-array-copy-out-leader c = let now = c .before .before .before in let (low, high) = leader-in (now .loop .l) (now .before .seats .result) (c .if3 .taken) (now .loop .inv .1) in omega (arith, low, high)
+array-copy-out-leader c = omega (arith, c .before .if2 .left, c .if3 .taken, c .before .before .before .loop .inv .1)
 
 returns-3 : tie.Need-returns-3 Inv-loop μ-loop
-unfolding upAmong
-returns-3 c = let now = c .before .before .before .before .before in let start = now .before .before in let eight : length (start .args .t2) ≤ 8 = omega (arith, start .good .1 .0 .1 .0 .1) in let all = seen-all (start .args .n) _ _ eight (now .before .seats .ensures) _ _ _ (now .loop .inv .0) (c .before .before .before .before .loop-test .left) (now .loop .inv .3) in seen-agreed _ _ _ _ all (not-false _ (c .before .before .before .if2 .left)) (sym (up-all (start .args .n) (now .before .seats .result) (start .args .t2) eight (now .before .seats .ensures) (now .loop .l)) ∙ rw (c .before .before .if3 .taken) (c .if4 .taken))
+returns-3 c = let now = c .before .before .before .before .before in let start = now .before .before in let eight : length (start .args .t2) ≤ 8 = omega (arith, start .good .1 .0 .1 .0 .1) in let all = seen-all (start .args .n) _ _ eight (now .before .seats .ensures) _ _ (now .loop .inv .0) (c .before .before .before .before .loop-test .left) (now .loop .inv .3) in let some : 1 ≤ now .loop .l = omega (arith, c .before .before .before .if2 .left) in seen-agreed _ _ _ all some (up-in (start .args .n) _ _ eight (now .before .seats .ensures) _ some (c .before .before .if3 .taken) ∙ c .if4 .taken)
 
 returns-4 : tie.Need-returns-4 Inv-loop μ-loop
-unfolding upAmong
-returns-4 c = let now = c .before .before .before .before .before in let start = now .before .before in let eight : length (start .args .t2) ≤ 8 = omega (arith, start .good .1 .0 .1 .0 .1) in let all = seen-all (start .args .n) _ _ eight (now .before .seats .ensures) _ _ _ (now .loop .inv .0) (c .before .before .before .before .loop-test .left) (now .loop .inv .3) in seen-agreed-dark _ _ _ _ all (not-false _ (c .before .before .before .if2 .left)) (sym (up-all (start .args .n) (now .before .seats .result) (start .args .t2) eight (now .before .seats .ensures) (now .loop .l)) ∙ rw (c .before .before .if3 .taken) (c .if4 .left))
+returns-4 c = let now = c .before .before .before .before .before in let start = now .before .before in let eight : length (start .args .t2) ≤ 8 = omega (arith, start .good .1 .0 .1 .0 .1) in let all = seen-all (start .args .n) _ _ eight (now .before .seats .ensures) _ _ (now .loop .inv .0) (c .before .before .before .before .loop-test .left) (now .loop .inv .3) in let some : 1 ≤ now .loop .l = omega (arith, c .before .before .before .if2 .left) in seen-agreed-dark _ _ _ all some (up-in (start .args .n) _ _ eight (now .before .seats .ensures) _ some (c .before .before .if3 .taken) ∙ c .if4 .left)
 
 returns-5 : tie.Need-returns-5 Inv-loop μ-loop
-unfolding upAmong
-returns-5 c = let now = c .before .before .before in let start = now .before .before in let eight : length (start .args .t2) ≤ 8 = omega (arith, start .good .1 .0 .1 .0 .1) in let all = seen-all (start .args .n) _ _ eight (now .before .seats .ensures) _ _ _ (now .loop .inv .0) (c .before .before .loop-test .left) (now .loop .inv .3) in seen-agreed-dark _ _ _ _ all (not-false _ (c .before .if2 .left)) (sym (up-all (start .args .n) (now .before .seats .result) (start .args .t2) eight (now .before .seats .ensures) (now .loop .l)) ∙ rw (c .if3 .left))
+returns-5 c = let now = c .before .before .before in let start = now .before .before in let eight : length (start .args .t2) ≤ 8 = omega (arith, start .good .1 .0 .1 .0 .1) in let all = seen-all (start .args .n) _ _ eight (now .before .seats .ensures) _ _ (now .loop .inv .0) (c .before .before .loop-test .left) (now .loop .inv .3) in let some : 1 ≤ now .loop .l = omega (arith, c .before .if2 .left) in seen-agreed-dark _ _ _ all some (up-out (start .args .n) _ _ eight (now .before .seats .ensures) _ (c .if3 .left))
 
 pub search-spec : {M : Type 1} → statement M
 search-spec =
@@ -68,6 +63,7 @@ search-spec =
     (λ c. search needs)
     (λ c. search needs)
     (λ c. search needs)
+    (λ c κs. search needs)
     (λ c κs. search needs)
     returns
     (λ c κs. search needs)

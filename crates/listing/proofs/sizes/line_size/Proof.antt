@@ -9,14 +9,13 @@ use Rattle.listing.proofs.sizes.line_size.Statement.{statement}
 
 returns : tie.Need-returns
 unfolding ends
-returns c = (rw (line-is _ _ _ _) (simp length-append (omega arith)), omega arith)
+returns c = (rw (line-is _ _ _ _ _) (simp length-append (omega arith)), omega arith)
 
 pub line-size-spec : {M : Type 1} → statement M
 line-size-spec =
     tie.close
     (tie.spec
     (λ c κs. search needs)
-    (λ c. search needs)
     (λ c κs. search needs)
     (λ c. search needs)
     (λ c κs. search needs)

@@ -12,10 +12,10 @@ use Rattle.listing.proofs.sizes.lines_size.Tie as tie
 use Rattle.listing.proofs.sizes.lines_size.Statement.{statement}
 
 abbrev Inv-loop : tie.InvT-loop
-Inv-loop n stations sent size₀ k₀ size k = (k ≤ n) × (size ≤ 320 * k) × (size ≡ length (joinTo k (λ i. stationLine n (i + 1) (getD stations i noStation) (getD sent i 0))))
+Inv-loop clock n stations sent size₀ k₀ size k = (k ≤ n) × (size ≤ 320 * k) × (size ≡ length (joinTo k (λ i. stationLine clock n (i + 1) (getD stations i noStation) (getD sent i 0))))
 
 abbrev μ-loop : tie.MeasureT-loop
-μ-loop n stations sent size₀ k₀ size k = n - k
+μ-loop clock n stations sent size₀ k₀ size k = n - k
 
 loop-holds : tie.Need-loop-holds Inv-loop μ-loop
 unfolding joinTo

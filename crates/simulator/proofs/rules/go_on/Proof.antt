@@ -200,11 +200,11 @@ returns-2 c =
     turned-down (list x) (bytes x) (old x) (s₀ x) (from x) (s x) (at x) (size x) (buffer x) (g x) (inside x) (d x) (m x) AlreadyStarted (rank-turned x _ _ (c .before .before .before .before .d8 .given .1) (fails (c .before .none-started .ensures) (c .if2 .taken)))
 
 sub-place-3 : tie.Need-sub-place-3 Inv-loop2 μ-loop2 Inv-loop μ-loop
-sub-place-3 c = let (ready, i, few, none) = rank-accepted c in omega (arith, i .low)
+sub-place-3 c = let (ready, flash, i, few, none) = rank-accepted c in omega (arith, i .low)
 
 element-write-s-3 : tie.Need-element-write-s-3 Inv-loop2 μ-loop2 Inv-loop μ-loop
 element-write-s-3 c =
-    let (ready, i, few, none) = rank-accepted c in
+    let (ready, flash, i, few, none) = rank-accepted c in
     omega (arith, i .low, i .high, is (c .before .before .before .before .before .before) ready .n-high)
 
 returns-3 : tie.Need-returns-3 Inv-loop2 μ-loop2 Inv-loop μ-loop
@@ -234,9 +234,9 @@ met c =
     λ w e.
     ⊎-elim
     (λ a.
-    let k = SetUp (a .1 .given .0 .0) (a .1 .given .0 .1 .0) in
+    let k = SetUp (a .1 .given .0 .0) (a .1 .given .0 .1 .0) (a .1 .given .0 .1 .1 .0) in
     let t = says x (a .1 .given .1) in
-    (inside-after (list x) (bytes x) (old x) (s₀ x) (from x) (s x) (at x) (size x) (buffer x) (g x) (inside x) (d x) (m x) k t w e, ap length (a .5) ∙ same, further (list x) (bytes x) (old x) (s₀ x) (from x) (s x) (at x) (size x) (buffer x) (g x) (inside x) (d x) (m x) k t w e (and-false (list x)) _ _ _ (subst Wide (sym (a .6)) (record { used = simp length-map at (a .4 .ok .1 .1 .1 .1 .1 .1 .1 .1 .1 .0 .1 .0 .1); messages = simp length-map at (a .4 .ok .1 .1 .1 .1 .1 .1 .1 .1 .1 .1 .0 .1 .0 .1) })) (ap systemOf (a .6) ∙ a .4 .ensures ∙ ap (initial (a .1 .given .0 .0)) (a .3 .ensures)) (a .7) (a .5), none (a .8)))
+    (inside-after (list x) (bytes x) (old x) (s₀ x) (from x) (s x) (at x) (size x) (buffer x) (g x) (inside x) (d x) (m x) k t w e, ap length (a .5) ∙ same, further (list x) (bytes x) (old x) (s₀ x) (from x) (s x) (at x) (size x) (buffer x) (g x) (inside x) (d x) (m x) k t w e (and-false (list x)) _ _ _ (subst Wide (sym (a .6)) (record { used = simp length-map at (a .4 .ok .1 .1 .1 .1 .1 .1 .1 .1 .1 .0 .1 .0 .1); messages = simp length-map at (a .4 .ok .1 .1 .1 .1 .1 .1 .1 .1 .1 .1 .0 .1 .0 .1) })) (ap systemOf (a .6) ∙ a .4 .ensures ∙ ap (initial (a .1 .given .0 .0) (a .1 .given .0 .1 .0)) (a .3 .ensures)) (a .7) (a .5), none (a .8)))
     (⊎-elim
     (λ a.
     let p = a .1 .given .0 .0 in

@@ -8,7 +8,9 @@ use native.Mathlib.Omega.{arith}
 use lib.ListN.{length, set, getD, length-map, length-set}
 use lib.Seq.{getD-set-same}
 use borrow.Author.Needs.{needs}
-use Rattle.station.specs.Limits.{lastTick}
+use Rattle.clock.specs.Rules.{carried}
+use Rattle.station.specs.Order.{entry}
+use Rattle.station.specs.Limits.{lastTick, longest}
 use Rattle.station.specs.declared.Station.{Station}
 use Rattle.layout.specs.Layout.{systemOf}
 use Rattle.layout.specs.declared.Layout.{Layout}
@@ -21,6 +23,7 @@ use Rattle.election.proofs.Idle.{still-none}
 use Rattle.election.proofs.Soundness.{sound-of}
 use Rattle.ticks.proofs.Chances.{Chances, chances-first, chances-station, chances-says, chances-late, chances-period, chances-skips, chances-free, chances-sends, chances-done, Turn, turn-ends, turn-stays, turn-sends, turn-rests, turn-slots, turn-waits}
 use Rattle.ticks.proofs.Counted.{chances-counted}
+use Rattle.ticks.proofs.ByKind.{heard-clock, heard-flash, expired-clock, expired-flash, slotted-clock, slotted-flash}
 use Rattle.ticks.proofs.Hearing.{Hearing, hearing-none, hearing-tick, hearing-ready, hearing-row, hearing-rests, timer-ready}
 use Rattle.ticks.proofs.InPlace.{Packing, Heard}
 use Rattle.ticks.proofs.Indices.{Number, Ends, Place, number-of, ends-of, place-of, place-before, number-fits, name-fits, next-number-fits, row-fits, station-fits, sent-fits, link-low, link-fits, places-fit, place-low, place-fits, message-fits, next-place-fits, left-falls, tick-fits, next-low, all-done, none-low, row-start, used-more-fits, at-least, at-most, as-most, one-more, no-more, long-enough, least-first, least-second, least-above}
@@ -74,12 +77,12 @@ abbrev μ-loop4 : tie.MeasureT-loop4
 μ-loop4 t s₀ end n empty busy₀ quiet now until₀ q₀ s busy until q = n - q
 
 abbrev Inv-loop9 : tie.InvT-loop9
-Inv-loop9 t s₀ end n empty busy quiet now until₀ p counts q₀ s until q =
+Inv-loop9 t s₀ end n empty busy quiet now until₀ p counts stamp q₀ s until q =
     (q ≤ n) × (now ≤ until) × (until ≤ lastTick) × Wide s × Silent n (s .used) busy (8 * n) × (getD busy p false ≡ true)
     × ((σ : System) → Chances n now σ until₀ s₀ (p + 1) p p (8 * p) → Chances n now σ until s (p + 1) p p (8 * p + q))
 
 abbrev μ-loop9 : tie.MeasureT-loop9
-μ-loop9 t s₀ end n empty busy quiet now until₀ p counts q₀ s until q = n - q
+μ-loop9 t s₀ end n empty busy quiet now until₀ p counts stamp q₀ s until q = n - q
 
 abbrev Inv-loop8 : tie.InvT-loop8
 Inv-loop8 t s₀ end n empty busy₀ quiet now until₀ p₀ s busy until p = (p ≤ n) × (now ≤ until) × Turn n now (systemOf s₀) lastTick until s busy p p p (8 * p)
@@ -117,8 +120,8 @@ cleared-place c = place-of _ _ _ _ (link (c .before .before .before .before .bef
 station : (c : tie.In-loop8 Inv-loop2 μ-loop2 Inv-loop μ-loop Inv-loop6 μ-loop6 Inv-loop7 μ-loop7 Inv-loop5 μ-loop5 Inv-loop4 μ-loop4 Inv-loop9 μ-loop9 Inv-loop8 μ-loop8 Inv-loop3 μ-loop3) → Number (c .before .loop8 .p)
 station c = number-of _ _ (c .before .before .before .before .before .loop3 .inv .0) (c .loop8-test .taken)
 
-way : (c : tie.In-loop9 Inv-loop2 μ-loop2 Inv-loop μ-loop Inv-loop6 μ-loop6 Inv-loop7 μ-loop7 Inv-loop5 μ-loop5 Inv-loop4 μ-loop4 Inv-loop9 μ-loop9 Inv-loop8 μ-loop8 Inv-loop3 μ-loop3) → Ends (c .before .before .before .before .before .before .before .before .before .before .before .before .loop8 .p) (c .before .loop9 .q)
-way c = ends-of _ _ _ (c .before .before .before .before .before .before .before .before .before .before .before .before .before .before .before .before .loop3 .inv .0) (c .before .before .before .before .before .before .before .before .before .before .before .loop8-test .taken) (c .loop9-test .taken)
+way : (c : tie.In-loop9 Inv-loop2 μ-loop2 Inv-loop μ-loop Inv-loop6 μ-loop6 Inv-loop7 μ-loop7 Inv-loop5 μ-loop5 Inv-loop4 μ-loop4 Inv-loop9 μ-loop9 Inv-loop8 μ-loop8 Inv-loop3 μ-loop3) → Ends (c .before .before .before .before .before .before .before .before .before .before .before .before .before .loop8 .p) (c .before .loop9 .q)
+way c = ends-of _ _ _ (c .before .before .before .before .before .before .before .before .before .before .before .before .before .before .before .before .before .loop3 .inv .0) (c .before .before .before .before .before .before .before .before .before .before .before .before .loop8-test .taken) (c .loop9-test .taken)
 
 loop-holds : tie.Need-loop-holds Inv-loop2 μ-loop2 Inv-loop μ-loop Inv-loop6 μ-loop6 Inv-loop7 μ-loop7 Inv-loop5 μ-loop5 Inv-loop4 μ-loop4 Inv-loop9 μ-loop9 Inv-loop8 μ-loop8 Inv-loop3 μ-loop3
 loop-holds c =
@@ -191,21 +194,28 @@ loop6-holds c =
     let hk : k < 64 = omega (arith, i .0, hp, hq) in
     (search needs, omega (arith, taken-few n now r _ _ p q (i .0) hp hq gone, used-read x k hk, c .before .count .ensures), i5 .1, omega arith, omega arith, reading-none _ _ _ _ _ _ (i5 .3), λ e. (e, refl))
 
-hear-requires : tie.Need-hear-requires Inv-loop2 μ-loop2 Inv-loop μ-loop Inv-loop6 μ-loop6 Inv-loop7 μ-loop7 Inv-loop5 μ-loop5 Inv-loop4 μ-loop4 Inv-loop9 μ-loop9 Inv-loop8 μ-loop8 Inv-loop3 μ-loop3
-hear-requires c κs =
-    let i = c .before .before .before .before .before .before .before .before .before .before .before .before .before .before .before .before .before .loop3 .inv in
-    let r = systemOf (c .before .before .before .before .before .before .before .before .before .before .before .before .before .before .before .before .before .loop3 .s) in
-    let n = c .before .before .before .before .before .before .before .before .before .before .before .before .before .before .before .before .before .before .before .before .before .args .t2 .n in
-    let q = c .before .before .before .before .before .before .before .before .before .before .before .before .before .before .before .loop4 .q in
-    let i4 = c .before .before .before .before .before .before .before .before .before .before .before .before .before .before .before .loop4 .inv in
-    let p = c .before .before .before .before .before .before .before .before .before .before .before .before .loop5 .p in
-    let x = c .before .before .before .before .before .before .before .before .before .before .before .before .loop5 .s in
-    let i5 = c .before .before .before .before .before .before .before .before .before .before .before .before .loop5 .inv in
+-- what hearing is given, by either kind's rule
+hear-safe : (c : tie.After-x Inv-loop2 μ-loop2 Inv-loop μ-loop Inv-loop6 μ-loop6 Inv-loop7 μ-loop7 Inv-loop5 μ-loop5 Inv-loop4 μ-loop4 Inv-loop9 μ-loop9 Inv-loop8 μ-loop8 Inv-loop3 μ-loop3) → (c .before .before .before .before .before .before .before .before .before .before .before .before .before .before .before .loop3 .s .tick + 1 ≤ lastTick) × (entry (getD (c .before .before .before .before .before .loop6 .s .stations) (c .before .before .before .before .before .before .before .before .before .before .loop5 .p) noStation .timeouts) (c .before .before .before .before .before .before .before .before .before .before .before .before .before .loop4 .q + 1) ≤ longest lastTick) × (getD (c .before .before .before .before .before .loop6 .s .stations) (c .before .before .before .before .before .before .before .before .before .before .loop5 .p) noStation .timeout ≤ longest lastTick)
+hear-safe c =
+    let i = c .before .before .before .before .before .before .before .before .before .before .before .before .before .before .before .loop3 .inv in
+    let r = systemOf (c .before .before .before .before .before .before .before .before .before .before .before .before .before .before .before .loop3 .s) in
+    let n = c .before .before .before .before .before .before .before .before .before .before .before .before .before .before .before .before .before .before .before .args .t2 .n in
+    let q = c .before .before .before .before .before .before .before .before .before .before .before .before .before .loop4 .q in
+    let i4 = c .before .before .before .before .before .before .before .before .before .before .before .before .before .loop4 .inv in
+    let p = c .before .before .before .before .before .before .before .before .before .before .loop5 .p in
+    let x = c .before .before .before .before .before .before .before .before .before .before .loop5 .s in
+    let i5 = c .before .before .before .before .before .before .before .before .before .before .loop5 .inv in
     let so = i5 .6 r (i4 .4) (i4 .5) .1 in
-    let ticking = going-ticking _ _ r (i .3) (c .before .before .before .before .before .before .before .before .before .before .before .before .before .before .before .before .loop3-test .taken) in
+    let ticking = going-ticking _ _ r (i .3) (c .before .before .before .before .before .before .before .before .before .before .before .before .before .before .loop3-test .taken) in
     let hq′ : q < r .n = omega (arith, i .3 .size) in
-    let hp : p < n = omega (arith, c .before .before .before .before .before .before .before .before .before .before .before .loop5-test .taken) in
-    hearing-ready r n p q (systemOf x) so ticking hp (sym (i .3 .size)) hq′ (getD (c .before .before .before .before .before .before .before .loop6 .s .stations) p noStation) (c .before .before .before .before .before .before .before .loop6 .inv .5 .heard .timeouts)
+    let hp : p < n = omega (arith, c .before .before .before .before .before .before .before .before .before .loop5-test .taken) in
+    hearing-ready r n p q (systemOf x) so ticking hp (sym (i .3 .size)) hq′ (getD (c .before .before .before .before .before .loop6 .s .stations) p noStation) (c .before .before .before .before .before .loop6 .inv .5 .heard .timeouts) (c .before .before .before .before .before .loop6 .inv .5 .heard .timeout)
+
+hear-requires : tie.Need-hear-requires Inv-loop2 μ-loop2 Inv-loop μ-loop Inv-loop6 μ-loop6 Inv-loop7 μ-loop7 Inv-loop5 μ-loop5 Inv-loop4 μ-loop4 Inv-loop9 μ-loop9 Inv-loop8 μ-loop8 Inv-loop3 μ-loop3
+hear-requires c κs = let (early, more, one) = hear-safe (c .before) in (early, one)
+
+hear-requires-2 : tie.Need-hear-requires-2 Inv-loop2 μ-loop2 Inv-loop μ-loop Inv-loop6 μ-loop6 Inv-loop7 μ-loop7 Inv-loop5 μ-loop5 Inv-loop4 μ-loop4 Inv-loop9 μ-loop9 Inv-loop8 μ-loop8 Inv-loop3 μ-loop3
+hear-requires-2 c κs = let (early, more, one) = hear-safe (c .before .before .before) in (early, more)
 
 loop6-again : tie.Need-loop6-again Inv-loop2 μ-loop2 Inv-loop μ-loop Inv-loop6 μ-loop6 Inv-loop7 μ-loop7 Inv-loop5 μ-loop5 Inv-loop4 μ-loop4 Inv-loop9 μ-loop9 Inv-loop8 μ-loop8 Inv-loop3 μ-loop3
 loop6-again c =
@@ -230,11 +240,21 @@ loop6-again c =
     (λ w. (
       next,
       i6 .1,
-      at-least _ _ _ (w .8) (i6 .2),
-      as-most _ _ _ (w .8) (i6 .3),
-      no-more _ _ _ (w .10) (i6 .4),
-      reading-hears _ _ _ _ _ s _ _ _ (i6 .5) hk hj _ _ _ (w .0 .left) (w .8) (w .10) _ (long-enough _ _ _ (link (c .before .before .before .before .before .before) .to .low) (i6 .5 .beside .long ∙ so .long)) (w .1 .taken) (w .6 .ensures) (w .7),
-      λ e. (i6 .6 (sym (w .9) ∙ e) .0, w .10 ∙ i6 .6 (sym (w .9) ∙ e) .1),
+      at-least _ _ _ (w .7) (i6 .2),
+      as-most _ _ _ (w .7) (i6 .3),
+      no-more _ _ _ (w .9) (i6 .4),
+      reading-hears _ _ _ _ _ s _ _ _ (i6 .5) hk hj _ _ _ (w .0 .left) (w .7) (w .9) _ (long-enough _ _ _ (link (c .before .before .before .before .before .before) .to .low) (i6 .5 .beside .long ∙ so .long)) (w .1 .taken) (heard-clock s _ _ _ _ _ _ (w .4 .taken) (w .5 .ensures)) (w .6),
+      λ e. (i6 .6 (sym (w .8) ∙ e) .0, w .9 ∙ i6 .6 (sym (w .8) ∙ e) .1),
+    ))
+    (λ u. ⊎-elim
+    (λ w. (
+      next,
+      i6 .1,
+      at-least _ _ _ (w .9) (i6 .2),
+      as-most _ _ _ (w .9) (i6 .3),
+      no-more _ _ _ (w .11) (i6 .4),
+      reading-hears _ _ _ _ _ s _ _ _ (i6 .5) hk hj _ _ _ (w .0 .left) (w .9) (w .11) _ (long-enough _ _ _ (link (c .before .before .before .before .before .before) .to .low) (i6 .5 .beside .long ∙ so .long)) (w .1 .taken) (heard-flash s _ _ _ _ _ _ (w .4 .left) (w .7 .ensures)) (w .8),
+      λ e. (i6 .6 (sym (w .10) ∙ e) .0, w .11 ∙ i6 .6 (sym (w .10) ∙ e) .1),
     ))
     (λ w. (
       next,
@@ -245,6 +265,7 @@ loop6-again c =
       reading-passes _ _ _ _ _ s _ _ _ (i6 .5) hk hj _ _ _ (w .0 .left) (w .3) (w .5) (w .1 .left) (w .2),
       λ e. (i6 .6 (sym (w .4) ∙ e) .0, w .5 ∙ i6 .6 (sym (w .4) ∙ e) .1),
     ))
+    u)
     v)
     (c .if4 .came)
 
@@ -358,8 +379,9 @@ loop8-holds c =
     let z : c .before .loop4 .q ≡ c .before .before .before .before .before .before .before .args .t2 .n = omega (arith, i4 .0, c .loop4-test .left) in
     (search needs, i4 .1, record { high = i4 .2; wide = i4 .3; silent = i4 .6; chances = chances-first _ _ _ (c .before .loop4 .s) (i4 .5 .long) (part-first (systemOf (c .before .before .before .loop3 .s)) _ _ _ (systemOf (c .before .loop4 .s)) (length-links _ _) (i4 .4) z (i4 .5)) })
 
-expire-requires : tie.Need-expire-requires Inv-loop2 μ-loop2 Inv-loop μ-loop Inv-loop6 μ-loop6 Inv-loop7 μ-loop7 Inv-loop5 μ-loop5 Inv-loop4 μ-loop4 Inv-loop9 μ-loop9 Inv-loop8 μ-loop8 Inv-loop3 μ-loop3
-expire-requires c κs =
+-- what the end of a timer is given, by either kind's rule
+expire-safe : (c : tie.After-x2 Inv-loop2 μ-loop2 Inv-loop μ-loop Inv-loop6 μ-loop6 Inv-loop7 μ-loop7 Inv-loop5 μ-loop5 Inv-loop4 μ-loop4 Inv-loop9 μ-loop9 Inv-loop8 μ-loop8 Inv-loop3 μ-loop3) → (1 ≤ getD (c .before .before .before .before .before .loop8 .s .stations) (c .before .before .before .before .before .loop8 .p) noStation .leader) × (getD (c .before .before .before .before .before .loop8 .s .stations) (c .before .before .before .before .before .loop8 .p) noStation .leader ≤ 8) × (entry (getD (c .before .before .before .before .before .loop8 .s .stations) (c .before .before .before .before .before .loop8 .p) noStation .timeouts) (getD (c .before .before .before .before .before .loop8 .s .stations) (c .before .before .before .before .before .loop8 .p) noStation .leader) ≤ longest lastTick) × (getD (c .before .before .before .before .before .loop8 .s .stations) (c .before .before .before .before .before .loop8 .p) noStation .timeout ≤ longest lastTick)
+expire-safe c =
     let i = c .before .before .before .before .before .before .before .before .before .loop3 .inv in
     let r = systemOf (c .before .before .before .before .before .before .before .before .before .loop3 .s) in
     let n = c .before .before .before .before .before .before .before .before .before .before .before .before .before .args .t2 .n in
@@ -367,36 +389,44 @@ expire-requires c κs =
     let p = c .before .before .before .before .before .loop8 .p in
     let hp : p < n = omega (arith, c .before .before .before .before .loop8-test .taken) in
     let z : c .before .before .before .before .before .before .before .loop4 .q ≡ n = omega (arith, i4 .0, c .before .before .before .before .before .before .loop4-test .left) in
-    timer-ready r n _ (systemOf (c .before .before .before .before .before .before .before .loop4 .s)) (i4 .5) z (i .3 .size) (going-ticking _ _ r (i .3) (c .before .before .before .before .before .before .before .before .loop3-test .taken)) p hp _ (c .before .before .before .before .before .loop8 .inv .2 .chances .rest p (omega arith)) (sym (c .before .before .timer-ends .ensures) ∙ c .before .if6 .taken)
+    timer-ready r n _ (systemOf (c .before .before .before .before .before .before .before .loop4 .s)) (i4 .5) z (i .3 .size) (going-ticking _ _ r (i .3) (c .before .before .before .before .before .before .before .before .loop3-test .taken)) p hp _ (c .before .before .before .before .before .loop8 .inv .2 .chances .rest p (omega arith)) (sym (c .before .before .timer-ends .ensures) ∙ c .before .if7 .taken)
+
+expire-requires : tie.Need-expire-requires Inv-loop2 μ-loop2 Inv-loop μ-loop Inv-loop6 μ-loop6 Inv-loop7 μ-loop7 Inv-loop5 μ-loop5 Inv-loop4 μ-loop4 Inv-loop9 μ-loop9 Inv-loop8 μ-loop8 Inv-loop3 μ-loop3
+expire-requires c κs = expire-safe (c .before) .3
+
+expire-requires-2 : tie.Need-expire-requires-2 Inv-loop2 μ-loop2 Inv-loop μ-loop Inv-loop6 μ-loop6 Inv-loop7 μ-loop7 Inv-loop5 μ-loop5 Inv-loop4 μ-loop4 Inv-loop9 μ-loop9 Inv-loop8 μ-loop8 Inv-loop3 μ-loop3
+expire-requires-2 c κs = let (low, high, more, one) = expire-safe (c .before) in (low, high, more)
 
 -- the station's timer is done
-timed : (c : tie.Joined6 Inv-loop2 μ-loop2 Inv-loop μ-loop Inv-loop6 μ-loop6 Inv-loop7 μ-loop7 Inv-loop5 μ-loop5 Inv-loop4 μ-loop4 Inv-loop9 μ-loop9 Inv-loop8 μ-loop8 Inv-loop3 μ-loop3) → Turn (c .before .before .before .before .before .before .before .before .before .before .before .before .args .t2 .n) (c .before .before .before .before .before .before .before .before .loop3 .s .tick + 1) (systemOf (c .before .before .before .before .before .before .loop4 .s)) lastTick (c .before .before .before .before .loop8 .until) (c .if6 .s) (c .before .before .before .before .loop8 .busy) (c .before .before .before .before .loop8 .p + 1) (c .before .before .before .before .loop8 .p) (c .before .before .before .before .loop8 .p) (8 * c .before .before .before .before .loop8 .p)
+timed : (c : tie.Joined7 Inv-loop2 μ-loop2 Inv-loop μ-loop Inv-loop6 μ-loop6 Inv-loop7 μ-loop7 Inv-loop5 μ-loop5 Inv-loop4 μ-loop4 Inv-loop9 μ-loop9 Inv-loop8 μ-loop8 Inv-loop3 μ-loop3) → Turn (c .before .before .before .before .before .before .before .before .before .before .before .before .args .t2 .n) (c .before .before .before .before .before .before .before .before .loop3 .s .tick + 1) (systemOf (c .before .before .before .before .before .before .loop4 .s)) lastTick (c .before .before .before .before .loop8 .until) (c .if7 .s) (c .before .before .before .before .loop8 .busy) (c .before .before .before .before .loop8 .p + 1) (c .before .before .before .before .loop8 .p) (c .before .before .before .before .loop8 .p) (8 * c .before .before .before .before .loop8 .p)
 timed c =
     ⊎-elim
-    (λ w. turn-ends _ _ _ _ _ (c .before .before .before .before .loop8 .s) _ _ (c .before .before .before .loop8-test .taken) (c .before .before .before .before .before .before .before .before .loop3 .inv .0) (c .before .before .before .before .loop8 .inv .2) _ _ (sym (c .before .timer-ends .ensures) ∙ w .0 .taken) (w .2 .ensures) (w .3))
-    (λ w. turn-stays _ _ _ _ _ (c .before .before .before .before .loop8 .s) _ _ (c .before .before .before .loop8-test .taken) (c .before .before .before .before .before .before .before .before .loop3 .inv .0) (c .before .before .before .before .loop8 .inv .2) _ (sym (c .before .timer-ends .ensures) ∙ w .0 .left) (w .1))
-    (c .if6 .came)
+    (λ w. turn-ends _ _ _ _ _ (c .before .before .before .before .loop8 .s) _ _ (c .before .before .before .loop8-test .taken) (c .before .before .before .before .before .before .before .before .loop3 .inv .0) (c .before .before .before .before .loop8 .inv .2) _ _ (sym (c .before .timer-ends .ensures) ∙ w .0 .taken) (expired-clock (c .before .before .before .before .loop8 .s) _ _ _ (w .2 .taken) (w .3 .ensures)) (w .4))
+    (⊎-elim
+    (λ w. turn-ends _ _ _ _ _ (c .before .before .before .before .loop8 .s) _ _ (c .before .before .before .loop8-test .taken) (c .before .before .before .before .before .before .before .before .loop3 .inv .0) (c .before .before .before .before .loop8 .inv .2) _ _ (sym (c .before .timer-ends .ensures) ∙ w .0 .taken) (expired-flash (c .before .before .before .before .loop8 .s) _ _ _ (w .2 .left) (w .3 .ensures)) (w .4))
+    (λ w. turn-stays _ _ _ _ _ (c .before .before .before .before .loop8 .s) _ _ (c .before .before .before .loop8-test .taken) (c .before .before .before .before .before .before .before .before .loop3 .inv .0) (c .before .before .before .before .loop8 .inv .2) _ (sym (c .before .timer-ends .ensures) ∙ w .0 .left) (w .1)))
+    (c .if7 .came)
 
 -- the link that it sends over has a place
-free-place : (c : tie.After-count2 Inv-loop2 μ-loop2 Inv-loop μ-loop Inv-loop6 μ-loop6 Inv-loop7 μ-loop7 Inv-loop5 μ-loop5 Inv-loop4 μ-loop4 Inv-loop9 μ-loop9 Inv-loop8 μ-loop8 Inv-loop3 μ-loop3) → Place (c .before .before .before .before .before .before .before .before .before .before .before .before .before .before .before .before .before .loop8 .p) (c .before .before .before .before .before .before .loop9 .q) (c .count2 .result)
+free-place : (c : tie.After-count2 Inv-loop2 μ-loop2 Inv-loop μ-loop Inv-loop6 μ-loop6 Inv-loop7 μ-loop7 Inv-loop5 μ-loop5 Inv-loop4 μ-loop4 Inv-loop9 μ-loop9 Inv-loop8 μ-loop8 Inv-loop3 μ-loop3) → Place (c .before .before .before .before .before .before .before .before .before .before .before .before .before .before .before .before .before .before .loop8 .p) (c .before .before .before .before .before .before .loop9 .q) (c .count2 .result)
 free-place c =
-    let n = c .before .before .before .before .before .before .before .before .before .before .before .before .before .before .before .before .before .before .before .before .before .before .before .before .before .args .t2 .n in
-    let now = c .before .before .before .before .before .before .before .before .before .before .before .before .before .before .before .before .before .before .before .before .before .loop3 .s .tick + 1 in
-    let σ = systemOf (c .before .before .before .before .before .before .before .before .before .before .before .before .before .before .before .before .before .before .before .loop4 .s) in
-    let p = c .before .before .before .before .before .before .before .before .before .before .before .before .before .before .before .before .before .loop8 .p in
-    let hp : p < n = c .before .before .before .before .before .before .before .before .before .before .before .before .before .before .before .before .loop8-test .taken in
-    let ch = timed (c .before .before .before .before .before .before .before .before .before .before .before .before .before) .chances in
+    let n = c .before .before .before .before .before .before .before .before .before .before .before .before .before .before .before .before .before .before .before .before .before .before .before .before .before .before .args .t2 .n in
+    let now = c .before .before .before .before .before .before .before .before .before .before .before .before .before .before .before .before .before .before .before .before .before .before .loop3 .s .tick + 1 in
+    let σ = systemOf (c .before .before .before .before .before .before .before .before .before .before .before .before .before .before .before .before .before .before .before .before .loop4 .s) in
+    let p = c .before .before .before .before .before .before .before .before .before .before .before .before .before .before .before .before .before .before .loop8 .p in
+    let hp : p < n = c .before .before .before .before .before .before .before .before .before .before .before .before .before .before .before .before .before .loop8-test .taken in
+    let ch = timed (c .before .before .before .before .before .before .before .before .before .before .before .before .before .before) .chances in
     let i9 = c .before .before .before .before .before .before .loop9 .inv in
-    let says = chances-says n now σ _ _ p p _ ch hp _ (c .before .before .before .before .before .before .before .before .before .before .sends-now .ensures) in
+    let says = chances-says n now σ _ _ p p _ ch hp _ (c .before .before .before .before .before .before .before .before .before .before .before .sends-now .ensures) in
     record {
       ends = way (c .before .before .before .before .before);
       low =
-          chances-free n now σ (c .before .before .before .before .before .before .loop9 .until) (c .before .before .before .before .before .before .loop9 .s) p hp (c .before .before .before .before .before .before .loop9 .q) (c .before .before .before .before .before .loop9-test .taken) (i9 .6 σ ch) _ (c .before .before .before .ticks-of .ensures .0) (i9 .3) (c .before .before .if9 .taken) (sym says ∙ c .before .before .before .before .before .before .before .before .before .if8 .taken) _
-          (ap (λ (z : Station). z .recovered) (chances-station n now σ _ _ p p _ ch hp)) _ (c .count2 .ensures);
+          chances-free n now σ (c .before .before .before .before .before .before .loop9 .until) (c .before .before .before .before .before .before .loop9 .s) p hp (c .before .before .before .before .before .before .loop9 .q) (c .before .before .before .before .before .loop9-test .taken) (i9 .6 σ ch) _ (c .before .before .before .ticks-of .ensures .0) (i9 .3) (c .before .before .if11 .taken) (sym says ∙ c .before .before .before .before .before .before .before .before .before .before .if10 .taken) _
+          (ap (λ (z : Station). z .recovered) (chances-station n now σ _ _ p p _ ch hp)) _ (c .before .before .before .before .before .before .before .carried .ensures ∙ ap carried (chances-station n now σ _ _ p p _ ch hp)) _ (c .count2 .ensures);
     }
 
 -- it has sent, or it does not send
-rowed : (c : tie.Joined8 Inv-loop2 μ-loop2 Inv-loop μ-loop Inv-loop6 μ-loop6 Inv-loop7 μ-loop7 Inv-loop5 μ-loop5 Inv-loop4 μ-loop4 Inv-loop9 μ-loop9 Inv-loop8 μ-loop8 Inv-loop3 μ-loop3) → Turn (c .before .before .before .before .before .before .before .before .before .before .before .before .before .before .before .before .args .t2 .n) (c .before .before .before .before .before .before .before .before .before .before .before .before .loop3 .s .tick + 1) (systemOf (c .before .before .before .before .before .before .before .before .before .before .loop4 .s)) lastTick (c .if8 .until) (c .if8 .s) (c .if8 .busy) (c .before .before .before .before .before .before .before .before .loop8 .p + 1) (c .before .before .before .before .before .before .before .before .loop8 .p) (c .before .before .before .before .before .before .before .before .loop8 .p + 1) (8 * (c .before .before .before .before .before .before .before .before .loop8 .p + 1))
+rowed : (c : tie.Joined10 Inv-loop2 μ-loop2 Inv-loop μ-loop Inv-loop6 μ-loop6 Inv-loop7 μ-loop7 Inv-loop5 μ-loop5 Inv-loop4 μ-loop4 Inv-loop9 μ-loop9 Inv-loop8 μ-loop8 Inv-loop3 μ-loop3) → Turn (c .before .before .before .before .before .before .before .before .before .before .before .before .before .before .before .before .args .t2 .n) (c .before .before .before .before .before .before .before .before .before .before .before .before .loop3 .s .tick + 1) (systemOf (c .before .before .before .before .before .before .before .before .before .before .loop4 .s)) lastTick (c .if10 .until) (c .if10 .s) (c .if10 .busy) (c .before .before .before .before .before .before .before .before .loop8 .p + 1) (c .before .before .before .before .before .before .before .before .loop8 .p) (c .before .before .before .before .before .before .before .before .loop8 .p + 1) (8 * (c .before .before .before .before .before .before .before .before .loop8 .p + 1))
 rowed c =
     let n = c .before .before .before .before .before .before .before .before .before .before .before .before .before .before .before .before .args .t2 .n in
     let hn : n ≤ 8 = c .before .before .before .before .before .before .before .before .before .before .before .before .loop3 .inv .0 in
@@ -408,26 +438,26 @@ rowed c =
     let says = chances-says n now σ _ _ p p _ (ch .chances) hp _ (c .before .sends-now .ensures) in
     ⊎-elim
     (λ v.
-    let i9 = v .3 .inv in
-    turn-sends n now σ lastTick (v .3 .until) (v .3 .s) (set (c .before .before .before .before .before .before .before .before .loop8 .busy) p true) p hp hn (v .3 .q) (all-done _ _ (i9 .0) (v .4 .left)) (record { high = i9 .2; wide = i9 .3; silent = i9 .4; chances = i9 .6 σ (ch .chances) }) (sym says ∙ v .0 .taken) _ _ _ _ (v .6 .ensures) (v .7) (v .8) (v .9))
+    let i9 = v .4 .inv in
+    turn-sends n now σ lastTick (v .4 .until) (v .4 .s) (set (c .before .before .before .before .before .before .before .before .loop8 .busy) p true) p hp hn (v .4 .q) (all-done _ _ (i9 .0) (v .5 .left)) (record { high = i9 .2; wide = i9 .3; silent = i9 .4; chances = i9 .6 σ (ch .chances) }) (sym says ∙ v .0 .taken) _ _ _ _ (v .7 .ensures) (v .8) (v .9) (v .10))
     (λ v. turn-rests n now σ lastTick _ _ _ p hp hn ch (sym says ∙ v .0 .left) _ _ _ (v .1) (v .2) (v .3))
-    (c .if8 .came)
+    (c .if10 .came)
 
 loop9-holds : tie.Need-loop9-holds Inv-loop2 μ-loop2 Inv-loop μ-loop Inv-loop6 μ-loop6 Inv-loop7 μ-loop7 Inv-loop5 μ-loop5 Inv-loop4 μ-loop4 Inv-loop9 μ-loop9 Inv-loop8 μ-loop8 Inv-loop3 μ-loop3
 loop9-holds c =
-    let p = c .before .before .before .before .before .before .before .before .before .before .loop8 .p in
-    let hp : p < 8 = station (c .before .before .before .before .before .before .before .before .before) .low in
-    let ch = timed (c .before .before .before .before .before .before) in
-    (none-low _, c .before .before .before .before .before .before .before .before .before .before .loop8 .inv .1, ch .high, ch .wide, silent-sends _ _ _ _ (c .before .before .before .before .before .before .before .before .before .before .before .before .before .before .loop3 .inv .0) (ch .silent) p hp, getD-set-same (c .before .before .before .before .before .before .before .before .before .before .loop8 .busy) p true false (subst (λ (j : ℕ). p < j) (sym (ch .silent .long)) hp), λ σ₁ a. rw (row-start p) a)
+    let p = c .before .before .before .before .before .before .before .before .before .before .before .loop8 .p in
+    let hp : p < 8 = station (c .before .before .before .before .before .before .before .before .before .before) .low in
+    let ch = timed (c .before .before .before .before .before .before .before) in
+    (none-low _, c .before .before .before .before .before .before .before .before .before .before .before .loop8 .inv .1, ch .high, ch .wide, silent-sends _ _ _ _ (c .before .before .before .before .before .before .before .before .before .before .before .before .before .before .before .loop3 .inv .0) (ch .silent) p hp, getD-set-same (c .before .before .before .before .before .before .before .before .before .before .before .loop8 .busy) p true false (subst (λ (j : ℕ). p < j) (sym (ch .silent .long)) hp), λ σ₁ a. rw (row-start p) a)
 
 loop9-again : tie.Need-loop9-again Inv-loop2 μ-loop2 Inv-loop μ-loop Inv-loop6 μ-loop6 Inv-loop7 μ-loop7 Inv-loop5 μ-loop5 Inv-loop4 μ-loop4 Inv-loop9 μ-loop9 Inv-loop8 μ-loop8 Inv-loop3 μ-loop3
 loop9-again c =
-    let n = c .before .before .before .before .before .before .before .before .before .before .before .before .before .before .before .before .before .before .before .before .before .before .before .args .t2 .n in
-    let hn : n ≤ 8 = c .before .before .before .before .before .before .before .before .before .before .before .before .before .before .before .before .before .before .before .loop3 .inv .0 in
-    let now = c .before .before .before .before .before .before .before .before .before .before .before .before .before .before .before .before .before .before .before .loop3 .s .tick + 1 in
-    let p = c .before .before .before .before .before .before .before .before .before .before .before .before .before .before .before .loop8 .p in
-    let hp : p < n = c .before .before .before .before .before .before .before .before .before .before .before .before .before .before .loop8-test .taken in
-    let busy = set (c .before .before .before .before .before .before .before .before .before .before .before .before .before .before .before .loop8 .busy) p true in
+    let n = c .before .before .before .before .before .before .before .before .before .before .before .before .before .before .before .before .before .before .before .before .before .before .before .before .args .t2 .n in
+    let hn : n ≤ 8 = c .before .before .before .before .before .before .before .before .before .before .before .before .before .before .before .before .before .before .before .before .loop3 .inv .0 in
+    let now = c .before .before .before .before .before .before .before .before .before .before .before .before .before .before .before .before .before .before .before .before .loop3 .s .tick + 1 in
+    let p = c .before .before .before .before .before .before .before .before .before .before .before .before .before .before .before .before .loop8 .p in
+    let hp : p < n = c .before .before .before .before .before .before .before .before .before .before .before .before .before .before .before .loop8-test .taken in
+    let busy = set (c .before .before .before .before .before .before .before .before .before .before .before .before .before .before .before .before .loop8 .busy) p true in
     let x = c .before .before .before .before .loop9 .s in
     let until = c .before .before .before .before .loop9 .until in
     let q = c .before .before .before .before .loop9 .q in
@@ -436,7 +466,7 @@ loop9-again c =
     let hq : q < n = c .before .before .before .loop9-test .taken in
     let d = c .before .ticks-of .result in
     let ed : d ≡ getD (x .delays) k 0 = c .before .ticks-of .ensures .0 in
-    let counts = getD (c .before .before .before .before .before .before .before .before .before .before .before .if6 .s .stations) p noStation .recovered in
+    let counts = getD (c .before .before .before .before .before .before .before .before .before .before .before .before .if7 .s .stations) p noStation .recovered in
     ⊎-elim
     (λ w. (
       next-low _ _ hq,
@@ -446,7 +476,7 @@ loop9-again c =
       subst (λ (z : Layout). Silent n (z .used) busy (8 * n)) (sym (w .5)) (silent-stores n (x .used) busy (8 * n) hn (i9 .4) p q _ (way (c .before .before .before) .to .low) (i9 .5)),
       i9 .5,
       λ σ₁ a.
-          chances-sends n now σ₁ until x p hp q hq (i9 .6 σ₁ a) d ed (i9 .3) (w .0 .taken) (sym (chances-says n now σ₁ _ _ p p _ a hp _ (c .before .before .before .before .before .before .before .before .sends-now .ensures)) ∙ c .before .before .before .before .before .before .before .if8 .taken) counts (ap (λ (z : Station). z .recovered) (chances-station n now σ₁ _ _ p p _ a hp))
+          chances-sends n now σ₁ until x p hp q hq (i9 .6 σ₁ a) d ed (i9 .3) (w .0 .taken) (sym (chances-says n now σ₁ _ _ p p _ a hp _ (c .before .before .before .before .before .before .before .before .before .sends-now .ensures)) ∙ c .before .before .before .before .before .before .before .before .if10 .taken) counts (ap (λ (z : Station). z .recovered) (chances-station n now σ₁ _ _ p p _ a hp)) _ (c .before .before .before .before .before .carried .ensures ∙ ap carried (chances-station n now σ₁ _ _ p p _ a hp))
           _ (w .2 .ensures) _ _ _ _ (ap (λ (j : ℕ). j + 1) (sym (w .2 .ensures))) (w .5) (w .6) (w .4 .ensures .1) (w .4 .ensures .2),
     ))
     (λ w. (
@@ -458,27 +488,39 @@ loop9-again c =
       i9 .5,
       λ σ₁ a. rw (w .2) (subst (λ (z : Layout). Chances n now σ₁ until z (p + 1) p p (8 * p + (q + 1))) (sym (w .1)) (chances-skips n now σ₁ until x p hp q hq (i9 .6 σ₁ a) d ed (w .0 .left))),
     ))
-    (c .if9 .came)
+    (c .if11 .came)
 
 element-copy-out-sent-more : tie.Need-element-copy-out-sent-more Inv-loop2 μ-loop2 Inv-loop μ-loop Inv-loop6 μ-loop6 Inv-loop7 μ-loop7 Inv-loop5 μ-loop5 Inv-loop4 μ-loop4 Inv-loop9 μ-loop9 Inv-loop8 μ-loop8 Inv-loop3 μ-loop3
 element-copy-out-sent-more c = search needs
 
 sent-more-requires : tie.Need-sent-more-requires Inv-loop2 μ-loop2 Inv-loop μ-loop Inv-loop6 μ-loop6 Inv-loop7 μ-loop7 Inv-loop5 μ-loop5 Inv-loop4 μ-loop4 Inv-loop9 μ-loop9 Inv-loop8 μ-loop8 Inv-loop3 μ-loop3
 sent-more-requires c κs =
-    chances-counted _ _ _ _ _ (c .before .before .before .before .before .before .before .before .before .before .before .before .before .loop8 .p) _ (c .before .before .loop9 .inv .6 (systemOf (c .before .before .before .before .before .before .before .before .before .before .before .before .before .before .before .loop4 .s)) (timed (c .before .before .before .before .before .before .before .before .before) .chances)) (c .before .before .before .before .before .before .before .before .before .before .before .before .loop8-test .taken)
+    chances-counted _ _ _ _ _ (c .before .before .before .before .before .before .before .before .before .before .before .before .before .before .loop8 .p) _ (c .before .before .loop9 .inv .6 (systemOf (c .before .before .before .before .before .before .before .before .before .before .before .before .before .before .before .before .loop4 .s)) (timed (c .before .before .before .before .before .before .before .before .before .before) .chances)) (c .before .before .before .before .before .before .before .before .before .before .before .before .before .loop8-test .taken)
+
+-- what a send chance is given
+slot-safe : (c : tie.After-x4 Inv-loop2 μ-loop2 Inv-loop μ-loop Inv-loop6 μ-loop6 Inv-loop7 μ-loop7 Inv-loop5 μ-loop5 Inv-loop4 μ-loop4 Inv-loop9 μ-loop9 Inv-loop8 μ-loop8 Inv-loop3 μ-loop3) → (c .before .if10 .s .period ≤ 255) × (c .before .before .before .before .before .before .before .before .before .before .before .before .before .loop3 .s .tick + 1 ≤ lastTick) × (getD (c .before .if10 .s .stations) (c .before .before .before .before .before .before .before .before .before .loop8 .p) noStation .timeout ≤ longest lastTick)
+slot-safe c =
+    let row = rowed (c .before) .chances in
+    let ch = timed (c .before .before .before .before .before) .chances in
+    let hp = c .before .before .before .before .before .before .before .before .loop8-test .taken in
+    let due = ap (λ (x : Station). x .slot) (sym (chances-station _ _ _ _ _ _ _ _ ch hp)) ∙ c .before .before .before .before .if9 .taken in
+    (rw (chances-period _ _ _ _ _ _ _ _ row hp) (row .part .mid .period-high), row .part .mid .early, subst (λ (x : Station). x .timeout ≤ longest lastTick) (sym (chances-station _ _ _ _ _ _ _ _ row hp)) (row .part .mid .safe _ hp due))
 
 slot-requires : tie.Need-slot-requires Inv-loop2 μ-loop2 Inv-loop μ-loop Inv-loop6 μ-loop6 Inv-loop7 μ-loop7 Inv-loop5 μ-loop5 Inv-loop4 μ-loop4 Inv-loop9 μ-loop9 Inv-loop8 μ-loop8 Inv-loop3 μ-loop3
-slot-requires c κs =
-    let row = rowed (c .before) .chances in
-    (rw (chances-period _ _ _ _ _ _ _ _ row (c .before .before .before .before .before .before .before .before .loop8-test .taken)) (row .part .mid .period-high), row .part .mid .early)
+slot-requires c κs = slot-safe (c .before)
+
+slot-requires-2 : tie.Need-slot-requires-2 Inv-loop2 μ-loop2 Inv-loop μ-loop Inv-loop6 μ-loop6 Inv-loop7 μ-loop7 Inv-loop5 μ-loop5 Inv-loop4 μ-loop4 Inv-loop9 μ-loop9 Inv-loop8 μ-loop8 Inv-loop3 μ-loop3
+slot-requires-2 c κs = let (short, early, one) = slot-safe (c .before) in (short, early)
 
 quiet-station-requires : tie.Need-quiet-station-requires Inv-loop2 μ-loop2 Inv-loop μ-loop Inv-loop6 μ-loop6 Inv-loop7 μ-loop7 Inv-loop5 μ-loop5 Inv-loop4 μ-loop4 Inv-loop9 μ-loop9 Inv-loop8 μ-loop8 Inv-loop3 μ-loop3
 quiet-station-requires c κs =
     let i8 = c .before .before .before .before .before .before .loop8 .inv in
     ⊎-elim
-    (λ w. at-least _ _ _ (w .8) (⊎-elim (λ v. at-least _ _ _ (v .9) (v .3 .inv .1)) (λ v. at-least _ _ _ (v .3) (i8 .1)) (w .3 .came)))
-    (λ w. at-least _ _ _ (w .3) (i8 .1))
-    (c .before .if7 .came)
+    (λ w. at-least _ _ _ (w .9) (⊎-elim (λ v. at-least _ _ _ (v .10) (v .4 .inv .1)) (λ v. at-least _ _ _ (v .3) (i8 .1)) (w .3 .came)))
+    (⊎-elim
+    (λ w. at-least _ _ _ (w .9) (⊎-elim (λ v. at-least _ _ _ (v .10) (v .4 .inv .1)) (λ v. at-least _ _ _ (v .3) (i8 .1)) (w .3 .came)))
+    (λ w. at-least _ _ _ (w .3) (i8 .1)))
+    (c .before .if9 .came)
 
 loop8-again : tie.Need-loop8-again Inv-loop2 μ-loop2 Inv-loop μ-loop Inv-loop6 μ-loop6 Inv-loop7 μ-loop7 Inv-loop5 μ-loop5 Inv-loop4 μ-loop4 Inv-loop9 μ-loop9 Inv-loop8 μ-loop8 Inv-loop3 μ-loop3
 loop8-again c =
@@ -492,12 +534,16 @@ loop8-again c =
     let quiet = c .quiet-station .ensures in
     ⊎-elim
     (λ w.
-    let row = rowed (record { before = record { before = record { before = record { before = c .before .before .before; if7 = w .0 }; sends-now-arg = w .1 }; sends-now = w .2 }; if8 = w .3 }) in
-    (next-low _ _ hp, quiet .0, turn-slots n now σ lastTick (w .3 .until) (w .3 .s) (w .3 .busy) p hp hn _ _ row _ _ _ _ (w .8) (quiet .1) (w .7) (quiet .2) _ _ (chances-station n now σ _ _ p p _ (ch .chances) hp) (w .0 .taken) (w .5 .ensures) (w .6)))
+    let row = rowed (record { before = record { before = record { before = record { before = c .before .before .before; if9 = w .0 }; sends-now-arg = w .1 }; sends-now = w .2 }; if10 = w .3 }) in
+    (next-low _ _ hp, quiet .0, turn-slots n now σ lastTick (w .3 .until) (w .3 .s) (w .3 .busy) p hp hn _ _ row _ _ _ _ (w .9) (quiet .1) (w .8) (quiet .2) _ _ (chances-station n now σ _ _ p p _ (ch .chances) hp) (w .0 .taken) (slotted-clock (w .3 .s) _ _ _ _ (w .5 .taken) (w .6 .ensures)) (w .7)))
+    (⊎-elim
+    (λ w.
+    let row = rowed (record { before = record { before = record { before = record { before = c .before .before .before; if9 = w .0 }; sends-now-arg = w .1 }; sends-now = w .2 }; if10 = w .3 }) in
+    (next-low _ _ hp, quiet .0, turn-slots n now σ lastTick (w .3 .until) (w .3 .s) (w .3 .busy) p hp hn _ _ row _ _ _ _ (w .9) (quiet .1) (w .8) (quiet .2) _ _ (chances-station n now σ _ _ p p _ (ch .chances) hp) (w .0 .taken) (slotted-flash (w .3 .s) _ _ _ _ (w .5 .left) (w .6 .ensures)) (w .7)))
     (λ w.
     let row = turn-rests n now σ lastTick _ _ _ p hp hn ch (chances-late n now σ _ _ p p _ (ch .chances) hp (w .0 .left)) _ _ _ refl refl refl in
-    (next-low _ _ hp, quiet .0, turn-waits n now σ lastTick _ _ _ p hp hn _ _ row _ _ _ _ (w .3) (quiet .1) (w .2) (quiet .2) (w .0 .left) (w .1)))
-    (c .before .before .if7 .came)
+    (next-low _ _ hp, quiet .0, turn-waits n now σ lastTick _ _ _ p hp hn _ _ row _ _ _ _ (w .3) (quiet .1) (w .2) (quiet .2) (w .0 .left) (w .1))))
+    (c .before .before .if9 .came)
 
 loop3-again : tie.Need-loop3-again Inv-loop2 μ-loop2 Inv-loop μ-loop Inv-loop6 μ-loop6 Inv-loop7 μ-loop7 Inv-loop5 μ-loop5 Inv-loop4 μ-loop4 Inv-loop9 μ-loop9 Inv-loop8 μ-loop8 Inv-loop3 μ-loop3
 unfolding atTick
@@ -592,15 +638,18 @@ run-spec =
     (λ c. place-fits (place (c .before .before)))
     (λ c. message-fits (place (c .before .before)))
     (λ c. place-low (place (c .before .before)))
-    (λ c. number-fits (link (c .before .before .before .before .before .before .before .before .before .before) .to))
-    (λ c. name-fits (link (c .before .before .before .before .before .before .before .before .before .before) .to))
-    (λ c. number-fits (link (c .before .before .before .before .before .before .before .before .before .before) .from))
-    (λ c. name-fits (link (c .before .before .before .before .before .before .before .before .before .before) .from))
-    (λ c. station-fits (link (c .before .before .before .before .before .before .before .before .before .before) .to))
-    (λ c. link (c .before .before .before .before .before .before .before .before .before .before) .to .low)
+    (λ c. station-fits (link (c .before .before .before .before .before .before .before .before) .to))
+    (λ c. link (c .before .before .before .before .before .before .before .before) .to .low)
+    (λ c. number-fits (link (c .before .before .before .before .before .before .before .before .before) .to))
+    (λ c. name-fits (link (c .before .before .before .before .before .before .before .before .before) .to))
+    (λ c. number-fits (link (c .before .before .before .before .before .before .before .before .before) .from))
+    (λ c. name-fits (link (c .before .before .before .before .before .before .before .before .before) .from))
     hear-requires
-    (λ c. station-fits (link (c .before .before .before .before .before .before .before .before .before .before .before .before) .to))
-    (λ c. link (c .before .before .before .before .before .before .before .before .before .before .before .before) .to .low)
+    (λ c. station-fits (link (c .before .before .before .before .before .before .before .before .before .before .before) .to))
+    (λ c. link (c .before .before .before .before .before .before .before .before .before .before .before) .to .low)
+    hear-requires-2
+    (λ c. station-fits (link (c .before .before .before .before .before .before .before .before .before .before .before .before .before) .to))
+    (λ c. link (c .before .before .before .before .before .before .before .before .before .before .before .before .before) .to .low)
     (λ c. next-place-fits (place (c .before)))
     (λ c. left-falls _ _ (c .before .loop6-test .taken))
     loop6-again
@@ -625,13 +674,16 @@ run-spec =
     (λ c. station-fits (station c))
     (λ c. station c .low)
     (λ c κs. search needs)
-    (λ c. search needs)
-    (λ c. search needs)
     (λ c. station-fits (station (c .before .before .before)))
     (λ c. station (c .before .before .before) .low)
+    (λ c. number-fits (station (c .before .before .before .before)))
+    (λ c. name-fits (station (c .before .before .before .before)))
     expire-requires
-    (λ c. station-fits (station (c .before .before .before .before .before)))
-    (λ c. station (c .before .before .before .before .before) .low)
+    (λ c. station-fits (station (c .before .before .before .before .before .before)))
+    (λ c. station (c .before .before .before .before .before .before) .low)
+    expire-requires-2
+    (λ c. station-fits (station (c .before .before .before .before .before .before)))
+    (λ c. station (c .before .before .before .before .before .before) .low)
     (λ c. station-fits (station (c .before .before .before)))
     (λ c. station (c .before .before .before) .low)
     (λ c. number-fits (station (c .before .before .before .before)))
@@ -642,6 +694,7 @@ run-spec =
     (λ c. station (c .before .before .before .before .before .before .before) .low)
     (λ c. station-fits (station (c .before .before .before .before .before .before .before)))
     (λ c. station (c .before .before .before .before .before .before .before) .low)
+    (λ c κs. search needs)
     loop9-holds
     (λ c. row-fits (way c .from))
     (λ c. link-fits (way c))
@@ -649,7 +702,7 @@ run-spec =
     (λ c κs. search needs)
     (λ c. link-low (way (c .before .before .before)))
     (λ c κs. search needs)
-    (λ c. omega (arith, c .before .before .before .ticks-of .ensures .1, c .before .before .before .before .before .before .before .before .before .before .before .before .before .before .before .before .before .before .before .before .before .loop3 .inv .1, c .before .before .before .before .before .before .before .before .before .before .before .before .before .before .before .before .before .before .before .before .loop3-test .taken))
+    (λ c. omega (arith, c .before .before .before .ticks-of .ensures .1, c .before .before .before .before .before .before .before .before .before .before .before .before .before .before .before .before .before .before .before .before .before .before .loop3 .inv .1, c .before .before .before .before .before .before .before .before .before .before .before .before .before .before .before .before .before .before .before .before .before .loop3-test .taken))
     (λ c. places-fit (way (c .before .before .before .before .before)))
     (λ c. place-fits (free-place c))
     (λ c. message-fits (free-place c))
@@ -664,13 +717,18 @@ run-spec =
     (λ c. search needs)
     element-copy-out-sent-more
     sent-more-requires
-    (λ c. sent-fits (station (c .before .before .before .before .before .before .before .before .before .before .before .before .before)))
-    (λ c. station (c .before .before .before .before .before .before .before .before .before .before .before .before .before) .low)
+    (λ c. sent-fits (station (c .before .before .before .before .before .before .before .before .before .before .before .before .before .before)))
+    (λ c. station (c .before .before .before .before .before .before .before .before .before .before .before .before .before .before) .low)
     (λ c. station-fits (station (c .before .before .before .before .before .before .before)))
     (λ c. station (c .before .before .before .before .before .before .before) .low)
+    (λ c. number-fits (station (c .before .before .before .before .before .before .before .before .before)))
+    (λ c. name-fits (station (c .before .before .before .before .before .before .before .before .before)))
     slot-requires
-    (λ c. station-fits (station (c .before .before .before .before .before .before .before .before .before)))
-    (λ c. station (c .before .before .before .before .before .before .before .before .before) .low)
+    (λ c. station-fits (station (c .before .before .before .before .before .before .before .before .before .before)))
+    (λ c. station (c .before .before .before .before .before .before .before .before .before .before) .low)
+    slot-requires-2
+    (λ c. station-fits (station (c .before .before .before .before .before .before .before .before .before .before)))
+    (λ c. station (c .before .before .before .before .before .before .before .before .before .before) .low)
     (λ c. station-fits (station (c .before .before .before .before)))
     (λ c. station (c .before .before .before .before) .low)
     quiet-station-requires
