@@ -37,6 +37,7 @@ fn with_number(mut s: System, f: u64, x: u64) -> System {
         1 => s.n = byte(x),
         2 => s.period = tick(x),
         3 => s.tick = tick(x),
+        5 => s.clock = x == 1,
         16..=23 => s.sent[(f - 16) as usize] = tick(x),
         24..=31 => s.ranks[(f - 24) as usize] = byte(x),
         _ => {}

@@ -3,6 +3,7 @@ use crate::line::Line;
 use crate::numbers::byte;
 use crate::numbers::lists;
 use crate::numbers::short;
+use crate::numbers::tick;
 use crate::row::Row;
 use frame::Written;
 use frame::numbers::length_of;
@@ -51,5 +52,24 @@ pub fn read_case(r: Row, bytes: &[u8]) {
             b", counts \x08,\x09,\x0a,\x0b,\x0c,\x0d,\x0e,\x0f",
             lists(counts, [0u32; 8]),
         )
+        .print();
+}
+
+// Writes a clock frame, and prints the case.
+pub fn stamp_write_case(r: Row, buffer: &mut [u8]) {
+    let xs = r.numbers;
+    let w = frame::stamp::write(byte(xs[32]), byte(xs[33]), tick(xs[34]), buffer);
+    show(r.name, w, buffer);
+}
+
+// Reads a clock frame, and prints the answer.
+pub fn stamp_read_case(r: Row, bytes: &[u8]) {
+    let xs = r.numbers;
+    let name = r.name;
+    let stamped = frame::stamp::read(byte(xs[32]), bytes);
+    let answer = stamped.answer;
+    name.answer(read_refusal(answer))
+        .field(b", sender ", sender_of(answer) as u64)
+        .field(b", stamp ", stamped.stamp as u64)
         .print();
 }

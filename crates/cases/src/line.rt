@@ -1,6 +1,6 @@
 // A line of text: made piece by piece, and written whole.
 pub struct Line {
-    pub bytes: [u8; 256],
+    pub bytes: [u8; 512],
     pub size: usize,
 }
 
@@ -25,7 +25,7 @@ impl Line {
     // The empty line.
     pub fn new() -> Self {
         Self {
-            bytes: [0u8; 256],
+            bytes: [0u8; 512],
             size: 0,
         }
     }
@@ -33,7 +33,7 @@ impl Line {
     // The line and one byte more; a full line takes none.
     pub fn byte(mut self, b: u8) -> Self {
         let size = self.size;
-        if size < 256 {
+        if size < 512 {
             self.bytes[size] = b;
             self.size = size + 1;
         }

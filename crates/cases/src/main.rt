@@ -14,7 +14,7 @@ mod systems;
 mod table;
 
 fn main() {
-    let mut space = io::large_buffer();
+    let mut space = [0u8; 131072];
     let mut bytes = [0u8; 65537];
     let size = io::read_full(0, &mut space);
     table::run(&space[..size], &mut bytes);

@@ -1,7 +1,9 @@
 // Lists of numbers, and what stands in them. A station: at place 0 its starts, 1 the kept leader, 2 whether it is up, 3 its leader,
-// 4 the timer, 5 the slot, 6 whether it waits, from 8 on the counts that it knows, from 16 on its timeouts. A message: at 0 the tick
-// of its sending, 1 the tick at which it is due, from 8 on its counts.
+// 4 the timer, 5 the slot, 6 whether it waits, from 8 on the counts that it knows, from 16 on its timeouts, and of a clock head 24 its
+// stamp, 25 the lowest that it knows, 26 its one timeout. A message: at 0 the tick of its sending, 1 the tick at which it is due, 2 its
+// stamp, from 8 on its counts.
 use election::Message;
+use fit::wide;
 use station::Station;
 
 // The number as a byte.
@@ -47,9 +49,12 @@ pub fn of_station(s: Station) -> [u64; 64] {
     xs[1] = s.stable as u64;
     xs[2] = flag(s.up);
     xs[3] = s.leader as u64;
-    xs[4] = s.timer as u64;
-    xs[5] = s.slot as u64;
+    xs[4] = wide(s.timer);
+    xs[5] = wide(s.slot);
     xs[6] = flag(s.recovering);
+    xs[24] = wide(s.stamp);
+    xs[25] = wide(s.lowest);
+    xs[26] = wide(s.timeout);
     xs
 }
 
@@ -59,6 +64,7 @@ pub fn of_message(m: Message) -> [u64; 64] {
     let mut xs = lists(v, [0u32; 8]);
     xs[0] = m.sent as u64;
     xs[1] = m.due as u64;
+    xs[2] = m.stamp as u64;
     xs
 }
 
@@ -103,6 +109,9 @@ pub fn station_of(xs: [u64; 64]) -> Station {
         recovering: xs[6] == 1,
         recovered: counts(xs, 8),
         timeouts: timeouts(xs),
+        stamp: tick(xs[24]),
+        lowest: tick(xs[25]),
+        timeout: tick(xs[26]),
     }
 }
 
@@ -112,6 +121,7 @@ pub fn message_of(xs: [u64; 64]) -> Message {
         sent: tick(xs[0]),
         due: tick(xs[1]),
         counts: counts(xs, 8),
+        stamp: tick(xs[2]),
     }
 }
 

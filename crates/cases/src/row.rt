@@ -11,7 +11,7 @@ pub const NAME: usize = 65;
 pub struct Row {
     // the letter of the operation, 0 for none
     pub operation: u8,
-    // the letter of the change, 0 for none
+    // the letter of the change, or K for a clock head; 0 for none
     pub change: u8,
     // a station's from place 0 on (see numbers), those after a letter from 32 on, those after = from 40 on, those after % from 48 on;
     // at 62 how often bytes repeat

@@ -44,7 +44,7 @@ fn same_stations(a: System, b: System) -> bool {
 // Whether two systems are equal.
 pub fn same_system(a: System, b: System) -> bool {
     same(of_system(a), of_system(b))
-        & same(of_ranks(a), of_ranks(b))
+        & same(of_rest(a), of_rest(b))
         & same_stations(a, b)
         & same_links(a, b)
 }
@@ -71,16 +71,20 @@ fn of_stations(s: System) -> [u64; 64] {
     xs
 }
 
-// The ranks, from place 0 on.
-fn of_ranks(s: System) -> [u64; 64] {
+// The ranks, from place 0 on; and of each station its stamp, the lowest that it knows and its one timeout, from places 8, 16 and 24 on.
+fn of_rest(s: System) -> [u64; 64] {
     let mut xs = [0u64; 64];
     for k in 0..8 {
+        let x = of_station(s.stations[k]);
         xs[k] = s.ranks[k] as u64;
+        xs[k + 8] = x[24];
+        xs[k + 16] = x[25];
+        xs[k + 24] = x[26];
     }
     xs
 }
 
-// What shows of a system but for its ranks, as numbers.
+// What shows of a system but for the rest, as numbers.
 fn of_system(s: System) -> [u64; 64] {
     let mut xs = of_stations(s);
     xs[0] = flag(s.ready);
@@ -88,18 +92,24 @@ fn of_system(s: System) -> [u64; 64] {
     xs[2] = s.period as u64;
     xs[3] = s.tick as u64;
     xs[4] = underway(s);
+    xs[5] = flag(s.clock);
     xs
 }
 
-// The line and what shows of a system.
+// The line and what shows of a system; of clock heads their stamps too.
 pub fn system(line: Line, s: System) -> Line {
-    line.either(s.ready, b", set up", b", not set up")
+    let rest = of_rest(s);
+    let shown = line.either(s.ready, b", set up", b", not set up")
         .filled(
             b", n \x01, period \x02, tick \x03, up \x18\x19\x1a\x1b\x1c\x1d\x1e\x1f, counts \x08,\x09,\x0a,\x0b,\x0c,\x0d,\x0e,\x0f, sent \x10,\x11,\x12,\x13,\x14,\x15,\x16,\x17, under way \x04",
             of_system(s),
         )
-        .filled(
-            b", ranks \x00,\x01,\x02,\x03,\x04,\x05,\x06,\x07",
-            of_ranks(s),
-        )
+        .filled(b", ranks \x00,\x01,\x02,\x03,\x04,\x05,\x06,\x07", rest);
+    if s.clock {
+        return shown.filled(
+            b", clock heads, stamps \x08,\x09,\x0a,\x0b,\x0c,\x0d,\x0e,\x0f, lowest \x10,\x11,\x12,\x13,\x14,\x15,\x16,\x17, timeouts \x18,\x19,\x1a,\x1b,\x1c,\x1d,\x1e,\x1f",
+            rest,
+        );
+    }
+    shown
 }

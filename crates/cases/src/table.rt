@@ -1,27 +1,36 @@
 // A table of cases, read byte by byte. A case is a line: the operation's letter, what it is handed, a colon and the case's name.
 //   W n sender many = counts < buffer    writes a frame, of as many of the counts, into the buffer
 //   R n < frame                          reads a frame
+//   F n sender stamp < buffer            writes a clock frame into the buffer
+//   G n < frame                          reads a clock frame
 //   S me n period tick | station         starts a station; C crashes it, E ends its timer
 //   L me n period tick % ranks | station            gives it its send chance
 //   H me n period tick sender = counts % ranks | station    has it hear LEADER
+//   SK, CK, EK, LK me n period tick | station       the same of a clock head
+//   HK me n period tick sender stamp | station      has a clock head hear LEADER
 //   P < schedule                         runs a schedule
 //   D < schedule > command               hands a command to the system that the schedule leaves
 //   J < schedule > command               the same, and says whether that system is sound
 //   T < schedule > buffer                lists that system into the buffer
 //   V n = leaders % flags                searches n stations with these leaders for agreement; those with flag 1 are up
 // Numbers are decimal, and 0 where they are left out. A station is its starts, kept leader, up, leader, timer, slot and wait, then
-// / and the counts that it knows, + and its timeouts. Bytes are in hex: *7(09 0a) is 09 0a seven times, and " in place of < and a
-// schedule is the schedule of the line before. A letter behind the bytes changes a number of the system to x before the operation:
-//   N f = x        the system's own: f is 0 set up, 1 n, 2 period, 3 tick, 15 + p the sent count of station p, 23 + p its rank
-//   S p f = x      station p's: f is 0 starts .. 6 wait, 7 + q the count of station q, 15 + q the timeout for q
+// / and the counts that it knows, + and its timeouts, @ and its stamp, the lowest that it knows and its one timeout. Bytes are in hex:
+// *7(09 0a) is 09 0a seven times, and " in place of < and a schedule is the schedule of the line before. A letter behind the bytes
+// changes a number of the system to x before the operation:
+//   N f = x        the system's own: f is 0 set up, 1 n, 2 period, 3 tick, 5 clock heads, 15 + p the sent count of station p, 23 + p its
+//                  rank
+//   S p f = x      station p's: f is 0 starts .. 6 wait, 7 + q the count of station q, 15 + q the timeout for q, 24 the stamp, 25 the
+//                  lowest, 26 the timeout
 //   Z p q = x      the delay from p to q
 //   U p q = x      how many messages are under way from p to q
-//   M p q k f = x  the k-th message's: f is 0 sent, 1 due, 7 + r the count of station r
+//   M p q k f = x  the k-th message's: f is 0 sent, 1 due, 2 the stamp, 7 + r the count of station r
 //   X p q = k      the first message and the k-th change places
 //   O p q = r      the messages become those from 1 to r
 // A line that begins with # is a comment.
 use crate::desk::desk_case;
 use crate::frames::read_case;
+use crate::frames::stamp_read_case;
+use crate::frames::stamp_write_case;
 use crate::frames::write_case;
 use crate::line::Line;
 use crate::row::BYTES;
@@ -123,6 +132,7 @@ fn place(at: usize, b: u8) -> usize {
         b'|' => 63,
         b'/' => 7,
         b'+' => 15,
+        b'@' => 23,
         b'*' => 62,
         b'<' | b'>' | b'(' | b'"' => BYTES,
         b':' | b'#' => NAME,
@@ -166,6 +176,8 @@ fn run_row(r: Row, bytes: &mut [u8]) {
     match operation {
         b'W' => write_case(r, bytes),
         b'R' => read_case(r, bytes),
+        b'F' => stamp_write_case(r, bytes),
+        b'G' => stamp_read_case(r, bytes),
         b'P' => schedule_case(r, bytes),
         b'D' | b'J' | b'T' => desk_case(r, bytes),
         b'V' => search_case(r),
