@@ -5,29 +5,42 @@
 #include <string.h>
 
 enum { STATIONS = 8, PLACES = 16, MAX_RANK = 7, MAX_INCARNATION = 4095, MAX_TICK = 1000000, MAX_SCHEDULE = 65536 };
-enum { SET_UP = 1, START, CRASH, LINK, RUN, LOSE, REPORT, RANK };
+enum { SET_UP = 1, START, CRASH, LINK, RUN, LOSE, REPORT, RANK, SET_UP_CLOCKS };
 
 static const uint8_t operands[] = { // bytes after each command
     [SET_UP] = 2, [START] = 1, [CRASH] = 1, [LINK] = 3, [RUN] = 2, [LOSE] = 2, [REPORT] = 0, [RANK] = 2,
+    [SET_UP_CLOCKS] = 2,
 };
 
 // Stations are numbered from 1; place 0 of each array by station is unused.
 struct station {
-    uint32_t incarnation;             // kept through a crash
-    uint32_t stable;                  // the kept leader
-    uint32_t sent;                    // survives crashes too
+    uint32_t incarnation;                 // kept through a crash; clock heads: 0
+    uint32_t stable;                      // the kept leader; clock heads: itself
+    uint32_t sent;                        // survives crashes too
     bool up;
-    bool recovering;                  // until the first slot after a start
-    uint32_t leader;
-    uint32_t timer;                   // tick at which it ends, 0 if stopped
-    uint32_t slot;                    // tick of the next send chance
-    uint32_t timeout[STATIONS + 1];
-    uint16_t recovered[STATIONS + 1]; // known start counts
+    bool recovering;                      // until the first slot after a start
+    uint32_t leader;                      // 0 if down, or if a clock head trusts nobody
+    uint32_t timer;                       // tick at which it ends, 0 if stopped
+    uint32_t slot;                        // tick of the next send chance
+    union {
+        uint32_t timeout[STATIONS + 1];
+        struct {                          // clock heads
+            uint32_t clock_timeout;       // one for all others
+            uint32_t lowest;              // the lowest stamp known
+        };
+    };
+    union {                               // what LEADER carries
+        uint16_t recovered[STATIONS + 1]; // known start counts
+        uint32_t stamp;                   // clock heads: what the clock read at the start
+    };
 };
 
 struct message {
     uint32_t due;
-    uint16_t recovered[STATIONS + 1];
+    union {
+        uint16_t recovered[STATIONS + 1];
+        uint32_t stamp;
+    };
 };
 
 // Messages under way stand first, oldest sending first.
@@ -37,7 +50,8 @@ struct link {
     struct message message[PLACES];
 };
 
-static bool ready; // set up is done
+static bool ready;  // set up is done
+static bool clocks; // the heads have a running clock and no flash
 static uint32_t stations, period, tick;
 static struct station station[STATIONS + 1];
 static uint32_t order[STATIONS + 1]; // of candidates with equal counts: rank, then number; below 256
@@ -46,7 +60,7 @@ static bool busy[STATIONS + 1]; // whether a station may have messages under way
 static uint8_t schedule[MAX_SCHEDULE + 1];
 static char output[65536];
 
-// Station rules.
+// Rules of flash heads.
 
 static void start(uint32_t p) {
     struct station *s = &station[p];
@@ -61,11 +75,6 @@ static void start(uint32_t p) {
     s->recovered[p] = (uint16_t)s->incarnation;
     s->timer = s->leader == p ? 0 : tick + s->timeout[s->leader];
     s->slot = tick + period + s->incarnation;
-}
-
-static void crash(uint32_t p) {
-    struct station *s = &station[p];
-    *s = (struct station){ .incarnation = s->incarnation, .stable = s->stable, .sent = s->sent };
 }
 
 // Candidates compare by known count, then rank, then number: all three as one number.
@@ -99,11 +108,66 @@ static void timer_ends(uint32_t p) {
     s->timer = 0;
 }
 
+static void wait_ends(uint32_t p) {
+    station[p].stable = station[p].leader;
+}
+
+// Rules of clock heads.
+
+static void clock_start(uint32_t p) {
+    struct station *s = &station[p];
+    uint32_t clock = period + tick;
+    s->up = true;
+    s->recovering = true;
+    s->leader = 0;
+    s->clock_timeout = clock;
+    s->stamp = clock;
+    s->lowest = clock;
+    s->slot = tick + clock;
+}
+
+static void clock_hear(uint32_t p, uint32_t q, uint32_t stamp) {
+    struct station *s = &station[p];
+    bool wins_tie = s->leader == 0 ? q < p : q <= s->leader;
+    if (stamp < s->lowest || (stamp == s->lowest && wins_tie)) {
+        s->leader = q;
+        s->lowest = stamp;
+        s->timer = tick + s->clock_timeout;
+    }
+}
+
+static void clock_timer_ends(uint32_t p) {
+    struct station *s = &station[p];
+    s->clock_timeout++;
+    s->leader = p;
+    s->lowest = s->stamp;
+    s->timer = 0;
+}
+
+static void clock_wait_ends(uint32_t p) {
+    struct station *s = &station[p];
+    if (s->leader == 0)
+        s->leader = p;
+    else if (s->leader != p)
+        s->timer = tick + s->clock_timeout;
+}
+
+// Rules of both.
+
+static void crash(uint32_t p) {
+    struct station *s = &station[p];
+    *s = (struct station){ .incarnation = s->incarnation, .stable = s->stable, .sent = s->sent };
+}
+
 // Answers whether the station sends.
 static bool send_chance(uint32_t p) {
     struct station *s = &station[p];
-    if (s->recovering)
-        s->stable = s->leader;
+    if (s->recovering) {
+        if (clocks)
+            clock_wait_ends(p);
+        else
+            wait_ends(p);
+    }
     s->recovering = false;
     s->slot += period;
     return s->leader == p;
@@ -115,8 +179,9 @@ static void set_rank(uint32_t p, uint32_t rank) {
     order[p] = rank * (STATIONS + 1) + p;
 }
 
-static void set_up(uint32_t n, uint32_t eta) {
+static void set_up(bool clock_heads, uint32_t n, uint32_t eta) {
     ready = true;
+    clocks = clock_heads;
     stations = n;
     period = eta;
     for (uint32_t p = 1; p <= n; p++) {
@@ -146,7 +211,10 @@ static bool deliver(uint32_t q, uint32_t p) {
                 l->message[left] = l->message[i];
             left++;
         } else if (station[p].up) {
-            hear(p, q, l->message[i].recovered);
+            if (clocks)
+                clock_hear(p, q, l->message[i].stamp);
+            else
+                hear(p, q, l->message[i].recovered);
         }
     }
     l->count = left;
@@ -160,7 +228,7 @@ static void send_leader(uint32_t p) {
             continue;
         struct message *m = &l->message[l->count++];
         m->due = tick + l->delay;
-        memcpy(m->recovered, station[p].recovered, sizeof m->recovered);
+        memcpy(m->recovered, station[p].recovered, sizeof m->recovered); // or the stamp that stands there
         due_at(m->due);
     }
     station[p].sent += stations - 1;
@@ -179,8 +247,12 @@ static void do_tick(void) {
     }
     for (uint32_t p = 1; p <= stations; p++) {
         const struct station *s = &station[p];
-        if (s->timer == tick)
-            timer_ends(p);
+        if (s->timer == tick) {
+            if (clocks)
+                clock_timer_ends(p);
+            else
+                timer_ends(p);
+        }
         if (s->slot == tick && send_chance(p))
             send_leader(p);
         if (s->up)
@@ -251,6 +323,21 @@ static char *put_station(char *at, uint32_t p) {
     return at;
 }
 
+// A number, or a dash for 0.
+static char *put_known(char *at, uint32_t number) {
+    return number != 0 ? put_number(at, number) : put_text(at, "-");
+}
+
+static char *put_clock_station(char *at, uint32_t p) {
+    const struct station *s = &station[p];
+    at = put_number(at, p);
+    at = put_text(at, s->up ? " up leader " : " down leader ");
+    at = put_known(at, s->leader);
+    at = put_known(put_text(at, " inc - stamp "), s->stamp);
+    at = put_number(put_text(at, " sent "), s->sent);
+    return put_text(at, " kept -\n");
+}
+
 enum finding { DARK, AGREED, AGREED_DARK, SPLIT };
 
 struct search {
@@ -259,13 +346,13 @@ struct search {
     uint32_t ended;  // the station where the search ended; no listing shows it
 };
 
-// Ends at the first up station whose leader is not that of the up stations before it, else at the last station.
+// Ends at the first up station that trusts nobody, or another than the up stations before it, else at the last station.
 static struct search search_agreement(void) {
     uint32_t leader = 0;
     for (uint32_t p = 1; p <= stations; p++) {
         if (!station[p].up)
             continue;
-        if (leader != 0 && leader != station[p].leader)
+        if (station[p].leader == 0 || (leader != 0 && leader != station[p].leader))
             return (struct search){ SPLIT, 0, p };
         leader = station[p].leader;
     }
@@ -278,8 +365,12 @@ static void report(void) {
     char listing[1024]; // the longest takes less
     char *at = put_number(put_text(listing, "tick "), tick);
     *at++ = '\n';
-    for (uint32_t p = 1; p <= stations; p++)
-        at = put_station(at, p);
+    if (clocks)
+        for (uint32_t p = 1; p <= stations; p++)
+            at = put_clock_station(at, p);
+    else
+        for (uint32_t p = 1; p <= stations; p++)
+            at = put_station(at, p);
     struct search found = search_agreement();
     switch (found.finding) {
     case DARK:
@@ -315,22 +406,26 @@ static bool any_started(void) {
 // Does the first command of the bytes; answers 0, or the refusal with nothing changed.
 static int do_command(const uint8_t *bytes, size_t length) {
     uint8_t command = bytes[0];
-    if (command < SET_UP || command > RANK) return 1;
+    if (command < SET_UP || command > SET_UP_CLOCKS) return 1;
     if (length < 1u + operands[command]) return 2;
-    if (!ready && command != SET_UP) return 3;
+    if (!ready && command != SET_UP && command != SET_UP_CLOCKS) return 3;
     const uint8_t *operand = bytes + 1;
     switch (command) {
     case SET_UP:
+    case SET_UP_CLOCKS:
         if (ready) return 4;
         if (operand[0] < 2 || operand[0] > STATIONS) return 5;
         if (operand[1] < 16) return 6;
-        set_up(operand[0], operand[1]);
+        set_up(command == SET_UP_CLOCKS, operand[0], operand[1]);
         break;
     case START:
         if (!is_station(operand[0])) return 7;
         if (station[operand[0]].up) return 8;
         if (station[operand[0]].incarnation == MAX_INCARNATION) return 10;
-        start(operand[0]);
+        if (clocks)
+            clock_start(operand[0]);
+        else
+            start(operand[0]);
         quiet = 0;
         break;
     case CRASH:
@@ -358,6 +453,7 @@ static int do_command(const uint8_t *bytes, size_t length) {
         report();
         break;
     case RANK:
+        if (clocks) return 25;
         if (!is_station(operand[0])) return 7;
         if (operand[1] > MAX_RANK) return 22;
         if (any_started()) return 23;

@@ -1,11 +1,11 @@
 // captures COUNT SEED PROGRAM: hands COUNT captures to PROGRAM on its standard input, each of frames as hex text, one
-// to a line, and compares what it prints with what frame.rs reads there. Prints how often each kind of line came, the
-// first captures that differ and 'N passed, M failed'.
+// to a line, and compares what it prints with what frame.rs reads there. Prints how often each kind of line came, those
+// that begin with 11 hex, the clock frames, by themselves, the first captures that differ and 'N passed, M failed'.
 
 mod frame;
 mod random;
 
-use frame::{read_frame, write_frame};
+use frame::{read_clock_frame, read_frame, write_clock_frame, write_frame};
 use random::Random;
 use std::collections::BTreeMap;
 use std::io::Write;
@@ -45,28 +45,60 @@ fn reason(refusal: u64) -> &'static str {
     match refusal {
         5 => "n is not 2 to 8",
         17 => "the length is not 3 + 2n",
-        18 => "the first byte is not 10 hex",
+        18 => "the first byte is neither 10 nor 11 hex",
         19 => "the sender is not 1 to n",
         20 => "a count is above 4095, or the sender's own is 0",
         _ => unreachable!("24 cannot come, as n is the frame's own"),
     }
 }
 
-/// What is printed for the line, and which kind it is: 0 if it is accepted, the refusal, or none if it is no hex.
-fn explained(number: usize, line: &[u8]) -> (Option<u64>, String) {
-    let Some(bytes) = bytes_of(line) else { return (None, format!("line {number}: no hex\n")) };
+fn clock_reason(refusal: u64) -> &'static str {
+    match refusal {
+        17 => "the length is not 6",
+        19 => "the sender is not 1 to 8",
+        _ => unreachable!("5 and 18 cannot come, as n is 8 and the first byte is 11 hex"),
+    }
+}
+
+/// The kinds of lines: clock frames and others, with 0 if the line is accepted, else with the refusal, and no hex text.
+#[derive(Clone, Copy, PartialEq, Eq, PartialOrd, Ord)]
+enum Kind {
+    ClockFrame(u64),
+    Frame(u64),
+    NoHex,
+}
+
+/// What is printed for the line, and which kind it is.
+fn explained(number: usize, line: &[u8]) -> (Kind, String) {
+    let (kind, said) = match bytes_of(line) {
+        None => (Kind::NoHex, "no hex".to_string()),
+        Some(bytes) if bytes.first() == Some(&0x11) => clock_explained(&bytes),
+        Some(bytes) => frame_explained(&bytes),
+    };
+    (kind, format!("line {number}: {said}\n"))
+}
+
+fn frame_explained(bytes: &[u8]) -> (Kind, String) {
     // What every reader refuses with 17, as an old frame, is refused so; else n is the frame's own.
-    let answer = if (2..=8).all(|n| read_frame(n, &bytes) == Err(17)) {
+    let answer = if (2..=8).all(|n| read_frame(n, bytes) == Err(17)) {
         Err(17)
     } else {
-        read_frame(bytes[2] as u64, &bytes)
+        read_frame(bytes[2] as u64, bytes)
     };
     match answer {
         Ok((sender, vector)) => {
             let counts: Vec<String> = vector.iter().map(|count| count.to_string()).collect();
-            (Some(0), format!("line {number}: sender {sender} n {} counts {}\n", bytes[2], counts.join(",")))
+            (Kind::Frame(0), format!("sender {sender} n {} counts {}", bytes[2], counts.join(",")))
         }
-        Err(refusal) => (Some(refusal), format!("line {number}: refused {refusal}, {}\n", reason(refusal))),
+        Err(refusal) => (Kind::Frame(refusal), format!("refused {refusal}, {}", reason(refusal))),
+    }
+}
+
+/// A clock frame has no n in it: it is read for 8 stations.
+fn clock_explained(bytes: &[u8]) -> (Kind, String) {
+    match read_clock_frame(8, bytes) {
+        Ok((sender, stamp)) => (Kind::ClockFrame(0), format!("sender {sender} stamp {stamp}")),
+        Err(refusal) => (Kind::ClockFrame(refusal), format!("refused {refusal}, {}", clock_reason(refusal))),
     }
 }
 
@@ -142,6 +174,27 @@ impl Random {
         bytes
     }
 
+    fn clock_frame(&mut self) -> Vec<u8> {
+        let sender = self.range(1, 8);
+        let stamp = match self.range(0, 2) {
+            0 => self.pick(&[0, 1, 255, 256, 65_535, 65_536, (1 << 24) - 1, 1 << 24, 1 << 31, (1 << 32) - 1]),
+            1 => self.range(16, 1_000_255), // as a clock reads
+            _ => self.range(0, (1 << 32) - 1),
+        };
+        let mut bytes = vec![0; 6];
+        write_clock_frame(8, sender, stamp as u32, &mut bytes).expect("it is well formed");
+        bytes
+    }
+
+    /// A frame of either kind.
+    fn well_formed(&mut self) -> Vec<u8> {
+        if self.percent(65) {
+            self.frame()
+        } else {
+            self.clock_frame()
+        }
+    }
+
     /// A frame as it was before Paper 5: 2 + 2n bytes, and n is none of them.
     fn old_frame(&mut self) -> Vec<u8> {
         let mut bytes = self.frame();
@@ -152,8 +205,51 @@ impl Random {
         bytes
     }
 
+    /// Bytes that may be a clock frame.
+    fn any_clock_frame(&mut self) -> Vec<u8> {
+        let mut bytes = self.clock_frame();
+        match self.range(0, 15) {
+            0..=6 => {}
+            7 => {
+                let place = self.place(bytes.len());
+                bytes[place] = self.byte();
+            }
+            8 => {
+                let place = self.place(bytes.len());
+                bytes[place] ^= 1 << self.range(0, 7);
+            }
+            9 => bytes[0] = self.pick(&[0, 1, 0x10, 0x10, 0x12, 0x91, 255]) as u8,
+            10 => bytes[1] = self.pick(&[0, 9, 16, 255]) as u8,
+            11 => {
+                // two parts wrong at once, so that the order of the refusals shows
+                bytes[1] = self.pick(&[0, 9, 255]) as u8;
+                if self.percent(50) {
+                    bytes.pop();
+                } else {
+                    bytes.push(0);
+                }
+            }
+            12 => bytes.truncate(self.range(1, 5) as usize),
+            13 => bytes.push(self.byte()),
+            14 => {
+                // as long as a frame of flash heads, with its n
+                let n = self.range(2, 8);
+                bytes[2] = n as u8;
+                bytes.resize(3 + 2 * n as usize, 1);
+            }
+            _ => {
+                let more = self.pick(&[2, 3, 6, 250, 256]);
+                bytes.extend(self.bytes(more));
+            }
+        }
+        bytes
+    }
+
     /// Bytes that may be a frame.
     fn any_frame(&mut self) -> Vec<u8> {
+        if self.percent(35) {
+            return self.any_clock_frame();
+        }
         let mut bytes = self.frame();
         let length = bytes.len();
         match self.range(0, 19) {
@@ -271,7 +367,7 @@ fn change(random: &mut Random, text: &mut Vec<u8>) {
         4 if !digits.is_empty() => text[digits[random.place(digits.len())]] = random.stranger(),
         5 => text.truncate(place),
         _ => {
-            let words: [&[u8]; 6] = [b"0x", b"\\x", b"#", b" 10", b" -", "\u{a0}".as_bytes()];
+            let words: [&[u8]; 7] = [b"0x", b"\\x", b"#", b" 10", b" 11", b" -", "\u{a0}".as_bytes()];
             let word = words[random.place(words.len())];
             text.splice(place..place, word.iter().copied());
         }
@@ -314,7 +410,7 @@ fn line(random: &mut Random, style: Style) -> Vec<u8> {
 /// A line without its end that is very long.
 fn long_line(random: &mut Random) -> Vec<u8> {
     let style = Style::random(random);
-    let frame = random.frame();
+    let frame = random.well_formed();
     let length = match random.range(0, 2) {
         0 => random.pick(&[1 << 10, 1 << 12, 1 << 13, 1 << 15, 1 << 16, 1 << 16, 1 << 17]) + random.range(0, 6) - 3,
         1 => random.range(1_000, MOST_CHARACTERS),
@@ -441,7 +537,7 @@ fn capture(random: &mut Random, number: u64) -> Vec<u8> {
     if random.percent(40) {
         capture.pop();
         if random.percent(30) {
-            let last: [&[u8]; 6] = [b"\n", b"\n ", b"\n\r", b"\n1", b"\n10", b"\n\t\ng"];
+            let last: [&[u8]; 7] = [b"\n", b"\n ", b"\n\r", b"\n1", b"\n10", b"\n11", b"\n\t\ng"];
             capture.extend(last[random.place(last.len())]);
         }
     }
@@ -485,7 +581,7 @@ fn shown(bytes: &[u8]) -> String {
 /// What was compared: lines by kind.
 #[derive(Default)]
 struct Tally {
-    kinds: BTreeMap<Option<u64>, u64>,
+    kinds: BTreeMap<Kind, u64>,
     passed: u64,
     failed: u64,
 }
@@ -527,15 +623,21 @@ impl Tally {
         }
     }
 
+    fn times(&self, kind: Kind) -> u64 {
+        self.kinds.get(&kind).copied().unwrap_or(0)
+    }
+
+    /// How often each of these refusals came.
+    fn refusals(&self, numbers: &[u64], kind: fn(u64) -> Kind) -> String {
+        let texts: Vec<String> = numbers.iter().map(|&n| format!("{n}: {}", self.times(kind(n)))).collect();
+        texts.join(", ")
+    }
+
     fn print(&self) {
-        let texts: Vec<String> = [Some(0), Some(5), Some(17), Some(18), Some(19), Some(20), None]
-            .iter()
-            .map(|kind| {
-                let name = kind.map_or("no hex".to_string(), |refusal| refusal.to_string());
-                format!("{name}: {}", self.kinds.get(kind).copied().unwrap_or(0))
-            })
-            .collect();
-        println!("lines, times each refusal (0: accepted): {}", texts.join(", "));
+        let others = self.refusals(&[0, 5, 17, 18, 19, 20], Kind::Frame);
+        let no_hex = self.times(Kind::NoHex);
+        println!("clock frames, times each refusal (0: accepted): {}", self.refusals(&[0, 17, 19], Kind::ClockFrame));
+        println!("other lines, times each refusal (0: accepted): {others}, no hex: {no_hex}");
         println!("{} passed, {} failed", self.passed, self.failed);
     }
 }

@@ -1,11 +1,11 @@
-// frames COUNT SEED: holds the product's writing and reading of frames, linked from crates/exported, to frame.rs on
-// COUNT cases, and its reading of old frames to Paper 5's sentence that they give 17. Prints how often each refusal
-// came, the cases that differ and 'N passed, M failed'.
+// frames COUNT SEED: holds the product's writing and reading of frames, of flash heads and of clock heads, linked from
+// crates/exported, to frame.rs on COUNT cases, and its reading of old frames to Paper 5's sentence that they give 17.
+// Prints how often each refusal came for each kind of frame, the cases that differ and 'N passed, M failed'.
 
 mod frame;
 mod random;
 
-use frame::{read_frame, write_frame};
+use frame::{read_clock_frame, read_frame, write_clock_frame, write_frame};
 use random::Random;
 use std::collections::BTreeMap;
 
@@ -20,8 +20,18 @@ extern "C" {
         written: *mut usize,
     ) -> u64;
     fn leader_frame_read(n: u8, bytes: *const u8, bytes_length: usize, sender: *mut u8, counts: *mut u16) -> u64;
+    fn clock_frame_write(
+        n: u8,
+        sender: u8,
+        stamp: u32,
+        buffer: *mut u8,
+        buffer_length: usize,
+        written: *mut usize,
+    ) -> u64;
+    fn clock_frame_read(n: u8, bytes: *const u8, bytes_length: usize, sender: *mut u8, stamp: *mut u32) -> u64;
 }
 
+const CLOCK_LENGTH: usize = 6;
 const GUARD: usize = 16; // bytes on both sides of a lent buffer, which must stay as they are
 
 impl Random {
@@ -103,6 +113,22 @@ impl Random {
         }
         (n, sender, counts)
     }
+
+    /// Any stamp, often at the end of a byte.
+    fn stamp(&mut self) -> u32 {
+        if self.percent(50) {
+            self.pick(&[0, 1, 255, 256, 65_535, 65_536, (1 << 24) - 1, 1 << 24, 1 << 31, (1 << 32) - 1]) as u32
+        } else {
+            self.next() as u32
+        }
+    }
+
+    /// n, the sender and the stamp of a clock frame that is well formed.
+    fn clock(&mut self) -> (u8, u8, u32) {
+        let n = self.range(2, 8) as u8;
+        let sender = self.range(1, n as u64) as u8;
+        (n, sender, self.stamp())
+    }
 }
 
 fn wide(counts: &[u16]) -> Vec<u64> {
@@ -130,12 +156,27 @@ fn well_written(n: u8, sender: u8, counts: &[u16]) -> Vec<u8> {
     bytes
 }
 
-/// What was compared: refusals by number (0: none) for writing and for reading, and old frames for an n from 2 to 8.
+/// A clock frame's bytes, well formed or not.
+fn laid_out_clock(sender: u8, stamp: u32) -> Vec<u8> {
+    let mut bytes = vec![0x11, sender];
+    bytes.extend(stamp.to_le_bytes());
+    bytes
+}
+
+/// What was compared: refusals by number (0: none) for writing and for reading, of each kind of frame, and old frames
+/// for an n from 2 to 8.
 #[derive(Default)]
 struct Tally {
     written: BTreeMap<u64, u64>,
     read: BTreeMap<u64, u64>,
+    clock_written: BTreeMap<u64, u64>,
+    clock_read: BTreeMap<u64, u64>,
     old: u64,
+}
+
+/// A buffer between bytes that must stay as they are.
+fn between_guards(buffer: &[u8]) -> Vec<u8> {
+    [&[0xA5; GUARD], buffer, &[0xA5; GUARD]].concat()
 }
 
 /// Writes by both; what differs, if anything.
@@ -148,12 +189,7 @@ fn compare_write(tally: &mut Tally, n: u8, sender: u8, counts: &[u16], buffer: &
     };
     *tally.written.entry(own_refusal).or_default() += 1;
 
-    let mut guarded = vec![0xA5; GUARD];
-    guarded.extend(buffer);
-    guarded.extend([0xA5; GUARD]);
-    let mut expected = vec![0xA5; GUARD];
-    expected.extend(&own_buffer);
-    expected.extend([0xA5; GUARD]);
+    let (mut guarded, expected) = (between_guards(buffer), between_guards(&own_buffer));
     let mut length = 77;
     // The pointers are to live values of these lengths.
     let refusal = unsafe {
@@ -208,9 +244,59 @@ fn compare_read(tally: &mut Tally, n: u8, bytes: &[u8]) -> Option<String> {
     ))
 }
 
+/// Writes a clock frame by both; what differs, if anything.
+fn compare_clock_write(tally: &mut Tally, n: u8, sender: u8, stamp: u32, buffer: &[u8]) -> Option<String> {
+    let mut own_buffer = buffer.to_vec();
+    let (own_refusal, own_length) = match write_clock_frame(n as u64, sender as u64, stamp, &mut own_buffer) {
+        Ok(length) => (0, length),
+        Err(number) => (number, 0),
+    };
+    *tally.clock_written.entry(own_refusal).or_default() += 1;
+
+    let (mut guarded, expected) = (between_guards(buffer), between_guards(&own_buffer));
+    let mut length = 77;
+    // The pointers are to live values of these lengths.
+    let refusal = unsafe {
+        let lent = guarded.as_mut_ptr().add(GUARD);
+        clock_frame_write(n, sender, stamp, lent, buffer.len(), &mut length)
+    };
+    if (refusal, length) == (own_refusal, own_length) && guarded == expected {
+        return None;
+    }
+    Some(format!(
+        "write clock n {n} sender {sender} stamp {stamp} buffer {buffer:02x?}: refusal {refusal} length {length} \
+         buffer {:02x?}, and should be {own_refusal} {own_length} {own_buffer:02x?}",
+        &guarded[GUARD..GUARD + buffer.len()]
+    ))
+}
+
+/// Reads a clock frame by both; what differs, if anything.
+fn compare_clock_read(tally: &mut Tally, n: u8, bytes: &[u8]) -> Option<String> {
+    let (own_refusal, own_sender, own_stamp) = match read_clock_frame(n as u64, bytes) {
+        Ok((sender, stamp)) => (0, sender, stamp),
+        Err(number) => (number, 0, 0),
+    };
+    *tally.clock_read.entry(own_refusal).or_default() += 1;
+
+    // only the one in the middle is lent
+    let (mut senders, mut stamps) = ([0xA5; 3], [0xA5A5_A5A5; 3]);
+    // The pointers are to live values of these lengths.
+    let refusal = unsafe {
+        let (sender, stamp) = (senders.as_mut_ptr().add(1), stamps.as_mut_ptr().add(1));
+        clock_frame_read(n, bytes.as_ptr(), bytes.len(), sender, stamp)
+    };
+    let (expected_senders, expected_stamps) = ([0xA5, own_sender as u8, 0xA5], [0xA5A5_A5A5, own_stamp, 0xA5A5_A5A5]);
+    if refusal == own_refusal && senders == expected_senders && stamps == expected_stamps {
+        return None;
+    }
+    Some(format!(
+        "read clock n {n} bytes {bytes:02x?}: refusal {refusal} senders {senders:02x?} stamps {stamps:02x?}, \
+         and should be {own_refusal} {expected_senders:02x?} {expected_stamps:02x?}"
+    ))
+}
+
 /// A buffer that is shorter than the frame, exact, or longer.
-fn buffer(random: &mut Random, n: u8) -> Vec<u8> {
-    let exact = 3 + 2 * (n as usize);
+fn buffer(random: &mut Random, exact: usize) -> Vec<u8> {
     let length = match random.range(0, 9) {
         0 => 0,
         1 => exact - 1,
@@ -249,7 +335,7 @@ fn any_write(random: &mut Random, tally: &mut Tally) -> Option<String> {
         let place = random.range(0, many - 1) as usize;
         counts[place] = random.pick(&[0, 4095, 4096, 4097, 8192, 65_535]) as u16;
     }
-    let lent = buffer(random, n);
+    let lent = buffer(random, 3 + 2 * n as usize);
     compare_write(tally, n, sender, &counts, &lent)
 }
 
@@ -263,7 +349,7 @@ fn grid(random: &mut Random, tally: &mut Tally) -> Option<String> {
                     *count = random.pick(&[0, 1, 4095, 4095, 4096, 65_535]) as u16;
                 }
             }
-            let lent = buffer(random, n);
+            let lent = buffer(random, 3 + 2 * n as usize);
             if let Some(difference) = compare_write(tally, n, sender, &counts, &lent) {
                 return Some(difference);
             }
@@ -429,6 +515,148 @@ fn any_read(random: &mut Random, tally: &mut Tally) -> Option<String> {
     compare_read(tally, n, &bytes)
 }
 
+/// A well-formed clock frame; the buffer of every length up to two beyond it. Read with every n.
+fn well_formed_clock(random: &mut Random, tally: &mut Tally) -> Option<String> {
+    let (n, sender, stamp) = random.clock();
+    for length in 0..=CLOCK_LENGTH + 2 {
+        let lent = random.bytes(length);
+        if let Some(difference) = compare_clock_write(tally, n, sender, stamp, &lent) {
+            return Some(difference);
+        }
+    }
+    let mut bytes = vec![0; CLOCK_LENGTH];
+    write_clock_frame(n as u64, sender as u64, stamp, &mut bytes).expect("it is well formed");
+    for stations in 0..=10 {
+        if let Some(difference) = compare_clock_read(tally, stations, &bytes) {
+            return Some(difference);
+        }
+    }
+    None
+}
+
+/// Anything handed to writing and reading of clock frames.
+fn any_clock(random: &mut Random, tally: &mut Tally) -> Option<String> {
+    let n = if random.percent(80) { random.stations() } else { random.byte() };
+    let sender = if random.percent(90) { random.sender(n) } else { random.byte() };
+    let stamp = random.stamp();
+    let lent = buffer(random, CLOCK_LENGTH);
+    if let Some(difference) = compare_clock_write(tally, n, sender, stamp, &lent) {
+        return Some(difference);
+    }
+    let mut bytes = random.bytes(lent.len());
+    if !bytes.is_empty() && random.percent(90) {
+        bytes[0] = 0x11;
+    }
+    if bytes.len() > 1 && random.percent(90) {
+        bytes[1] = random.sender(n);
+    }
+    compare_clock_read(tally, n, &bytes)
+}
+
+/// Every n from 0 to 10 with every sender from 0 to 10.
+fn clock_grid(random: &mut Random, tally: &mut Tally) -> Option<String> {
+    for n in 0..=10 {
+        for sender in 0..=10 {
+            let stamp = random.stamp();
+            let lent = buffer(random, CLOCK_LENGTH);
+            if let Some(difference) = compare_clock_write(tally, n, sender, stamp, &lent) {
+                return Some(difference);
+            }
+            if let Some(difference) = compare_clock_read(tally, n, &laid_out_clock(sender, stamp)) {
+                return Some(difference);
+            }
+        }
+    }
+    None
+}
+
+/// A clock frame with each of its bytes damaged in turn; any stamp is a right one.
+fn damaged_clock(random: &mut Random, tally: &mut Tally) -> Option<String> {
+    let (n, sender, stamp) = random.clock();
+    let mut bytes = laid_out_clock(sender, stamp);
+    for place in 0..bytes.len() {
+        let right = bytes[place];
+        let flipped = right ^ (1 << random.range(0, 7));
+        for wrong in [0, 1, right.wrapping_add(1), right.wrapping_sub(1), n, n + 1, 0x10, 0x11, 255, flipped] {
+            bytes[place] = wrong;
+            if let Some(difference) = compare_clock_read(tally, n, &bytes) {
+                return Some(difference);
+            }
+        }
+        bytes[place] = right;
+    }
+    None
+}
+
+/// A clock frame cut to every length, or lengthened.
+fn wrong_clock_length(random: &mut Random, tally: &mut Tally) -> Option<String> {
+    let (n, sender, stamp) = random.clock();
+    let mut bytes = laid_out_clock(sender, stamp);
+    bytes.extend(random.bytes(256));
+    let more = CLOCK_LENGTH + random.range(3, 250) as usize;
+    for length in (0..CLOCK_LENGTH).chain([7, 8, more, 256, CLOCK_LENGTH + 256]) {
+        if let Some(difference) = compare_clock_read(tally, n, &bytes[..length]) {
+            return Some(difference);
+        }
+    }
+    None
+}
+
+/// A clock frame with every choice of its parts wrong at once, written and read, so that the order of the refusals
+/// shows.
+fn wrong_clock(random: &mut Random, tally: &mut Tally) -> Option<String> {
+    for parts in 0..8 {
+        let wrong = |part: u32| parts & (1 << part) != 0;
+        let (n, mut sender, stamp) = random.clock();
+        if wrong(0) {
+            sender = random.pick(&[0, n as u64 + 1, 9, 255]) as u8;
+        }
+        let mut bytes = laid_out_clock(sender, stamp);
+        if wrong(1) {
+            bytes[0] = random.pick(&[0, 1, 0x0F, 0x10, 0x12, 0x91, 255]) as u8;
+        }
+        let length = if wrong(2) { random.pick(&[0, 1, 2, 4, 5, 5]) as usize } else { CLOCK_LENGTH };
+        if wrong(2) && random.percent(50) {
+            bytes.push(random.byte());
+        } else {
+            bytes.truncate(length);
+        }
+        let lent = random.bytes(length);
+        let no_stations = random.pick(&[0, 1, 9, 10, 255]) as u8;
+        for stations in [n, no_stations] {
+            let read = compare_clock_read(tally, stations, &bytes);
+            let written = compare_clock_write(tally, stations, sender, stamp, &lent);
+            if let Some(difference) = read.or(written) {
+                return Some(difference);
+            }
+        }
+    }
+    None
+}
+
+/// A frame of flash heads, or an old one, read as a clock frame, and a clock frame read as one of flash heads, with
+/// every n.
+fn of_the_other_kind(random: &mut Random, tally: &mut Tally) -> Option<String> {
+    let (n, sender, counts) = random.leader();
+    let (_, clock_sender, stamp) = random.clock();
+    let mut clock_bytes = laid_out_clock(clock_sender, stamp);
+    if random.percent(50) {
+        // as long as a frame of flash heads
+        clock_bytes.resize(3 + 2 * n as usize, 0);
+    }
+    for stations in 0..=10 {
+        for bytes in [laid_out(n, sender, &counts), laid_out_old(sender, &counts), laid_out_old(1, &counts[..2])] {
+            if let Some(difference) = compare_clock_read(tally, stations, &bytes) {
+                return Some(difference);
+            }
+        }
+        if let Some(difference) = compare_read(tally, stations, &clock_bytes) {
+            return Some(difference);
+        }
+    }
+    None
+}
+
 fn main() {
     let words: Vec<String> = std::env::args().collect();
     let numbers: Vec<u64> = words.iter().skip(1).filter_map(|w| w.parse().ok()).collect();
@@ -441,7 +669,7 @@ fn main() {
     let mut tally = Tally::default();
     let (mut passed, mut failed) = (0, 0);
     for number in 1..=count {
-        let difference = match number % 10 {
+        let difference = match number % 17 {
             0 => well_formed(&mut random, &mut tally),
             1 => any_write(&mut random, &mut tally),
             2 => damaged(&mut random, &mut tally),
@@ -451,7 +679,14 @@ fn main() {
             6 => as_long_as_another(&mut random, &mut tally),
             7 => old_frame(&mut random, &mut tally),
             8 => wrong_read(&mut random, &mut tally),
-            _ => wrong_write(&mut random, &mut tally),
+            9 => wrong_write(&mut random, &mut tally),
+            10 => well_formed_clock(&mut random, &mut tally),
+            11 => any_clock(&mut random, &mut tally),
+            12 => clock_grid(&mut random, &mut tally),
+            13 => damaged_clock(&mut random, &mut tally),
+            14 => wrong_clock_length(&mut random, &mut tally),
+            15 => wrong_clock(&mut random, &mut tally),
+            _ => of_the_other_kind(&mut random, &mut tally),
         };
         match difference {
             None => passed += 1,
@@ -461,7 +696,12 @@ fn main() {
             }
         }
     }
-    for (name, refusals) in [("write", &tally.written), ("read", &tally.read)] {
+    for (name, refusals) in [
+        ("write", &tally.written),
+        ("read", &tally.read),
+        ("write clock", &tally.clock_written),
+        ("read clock", &tally.clock_read),
+    ] {
         let texts: Vec<String> = refusals.iter().map(|(number, times)| format!("{number}: {times}")).collect();
         println!("{name}, times each refusal (0: accepted): {}", texts.join(", "));
     }

@@ -1,9 +1,10 @@
-// Document 01 once more, with Papers 1 to 4 of document 02, in plain Rust: reads a schedule from standard input, does its commands tick by tick and
-// prints what the rehearsal program must print. Written from the papers alone; tests/compare holds the product to it.
+// Document 01 once more, with Papers 1 to 6 of document 02, in plain Rust: reads a schedule from standard input, does
+// its commands tick by tick and prints what the rehearsal program must print. Written from the papers alone;
+// tests/compare holds the product to it.
 
 mod search;
 
-use search::{last_line, search};
+use search::{last_line, search, NOBODY};
 use std::io::{self, BufWriter, Read, Write};
 
 const LONGEST_SCHEDULE: usize = 65_536;
@@ -13,7 +14,15 @@ const LONGEST_DELAY: u64 = 255; // paper 1
 const MOST_UNDER_WAY: u64 = 16; // on a link, paper 1
 const LAST_RANK: u64 = 7; // paper 3
 
+/// The heads of a table: with flash, or with a running clock (paper 6).
+#[derive(Clone, Copy, PartialEq)]
+enum Heads {
+    Flash,
+    Clock,
+}
+
 /// A station. `kept_*` is what it keeps through a crash, `up` what it loses: there is none while it is down.
+/// A clock head keeps nothing: its count stays 0 and its kept leader is itself.
 struct Station {
     number: u64,
     kept_count: u64,
@@ -23,12 +32,17 @@ struct Station {
 }
 
 struct Up {
-    leader: u64,
-    recovered: Vec<u64>,
-    timeout: Vec<u64>, // 0 for the station itself
+    leader: u64, // NOBODY: none yet, a clock head in its start-up wait
+    knows: Knows,
     timer: Option<u64>,
     chance: u64,
     waiting: bool,
+}
+
+/// What the heads of each kind know, with their timeouts.
+enum Knows {
+    Counts { recovered: Vec<u64>, timeout: Vec<u64> }, // timeout 0 for the station itself
+    Stamps { own: u64, lowest: u64, timeout: u64 },
 }
 
 /// LEADER under way on a link.
@@ -37,10 +51,18 @@ struct Message {
     to: u64,
     sent_at: u64,
     due: u64,
-    recovered: Vec<u64>,
+    carries: Carries,
+}
+
+/// What LEADER carries: the vector of a flash head, the own stamp of a clock head.
+#[derive(Clone)]
+enum Carries {
+    Counts(Vec<u64>),
+    Stamp(u64),
 }
 
 struct Desk {
+    heads: Heads,
     n: u64,
     eta: u64,
     tick: u64,
@@ -64,7 +86,14 @@ impl Station {
         Station { number, kept_count: 0, kept_leader: number, sent: 0, up: None }
     }
 
-    fn start(&mut self, n: u64, eta: u64, tick: u64) {
+    fn start(&mut self, heads: Heads, n: u64, eta: u64, tick: u64) {
+        match heads {
+            Heads::Flash => self.start_flash(n, eta, tick),
+            Heads::Clock => self.start_clock(eta, tick),
+        }
+    }
+
+    fn start_flash(&mut self, n: u64, eta: u64, tick: u64) {
         self.kept_count += 1;
         let wait = eta + self.kept_count;
         let mut timeout = vec![wait; n as usize];
@@ -73,7 +102,15 @@ impl Station {
         recovered[at(self.number)] = self.kept_count;
         let leader = self.kept_leader;
         let timer = if leader == self.number { None } else { Some(tick + timeout[at(leader)]) };
-        self.up = Some(Up { leader, recovered, timeout, timer, chance: tick + wait, waiting: true });
+        let knows = Knows::Counts { recovered, timeout };
+        self.up = Some(Up { leader, knows, timer, chance: tick + wait, waiting: true });
+    }
+
+    /// The stamp, the lowest stamp known, the timeout and the wait are all what the clock reads.
+    fn start_clock(&mut self, eta: u64, tick: u64) {
+        let clock = eta + tick;
+        let knows = Knows::Stamps { own: clock, lowest: clock, timeout: clock };
+        self.up = Some(Up { leader: NOBODY, knows, timer: None, chance: tick + clock, waiting: true });
     }
 
     fn crash(&mut self) {
@@ -81,56 +118,103 @@ impl Station {
     }
 
     /// Hears LEADER from q in this tick. The ranks are the desk's: all stations know them.
-    fn hear(&mut self, q: u64, received: &[u64], rank: &[u64], tick: u64) {
+    fn hear(&mut self, q: u64, carries: &Carries, rank: &[u64], tick: u64) {
         let number = self.number;
         let Some(up) = &mut self.up else { return };
-        for (own, new) in up.recovered.iter_mut().zip(received) {
-            *own = (*own).max(*new);
-        }
-        // "If q is not after the trusted leader"
-        if !before(&up.recovered, rank, up.leader, q) {
-            up.leader = q;
-            up.timer = Some(tick + up.timeout[at(q)]);
-        }
-        if before(&up.recovered, rank, number, up.leader) {
-            up.leader = number;
-            up.timer = None;
+        match (&mut up.knows, carries) {
+            (Knows::Counts { recovered, timeout }, Carries::Counts(received)) => {
+                for (own, new) in recovered.iter_mut().zip(received) {
+                    *own = (*own).max(*new);
+                }
+                // "If q is not after the trusted leader"
+                if !before(recovered, rank, up.leader, q) {
+                    up.leader = q;
+                    up.timer = Some(tick + timeout[at(q)]);
+                }
+                if before(recovered, rank, number, up.leader) {
+                    up.leader = number;
+                    up.timer = None;
+                }
+            }
+            (Knows::Stamps { lowest, timeout, .. }, Carries::Stamp(stamp)) => {
+                let first = if up.leader == NOBODY { q < number } else { q <= up.leader };
+                if stamp < lowest || stamp == lowest && first {
+                    up.leader = q;
+                    *lowest = *stamp;
+                    up.timer = Some(tick + *timeout);
+                }
+            }
+            _ => unreachable!("the heads of a table are of one kind"),
         }
     }
 
     fn end_timer(&mut self) {
         let number = self.number;
         let Some(up) = &mut self.up else { return };
-        up.timeout[at(up.leader)] += 1;
+        match &mut up.knows {
+            Knows::Counts { timeout, .. } => timeout[at(up.leader)] += 1,
+            Knows::Stamps { own, lowest, timeout } => {
+                *timeout += 1;
+                *lowest = *own;
+            }
+        }
         up.leader = number;
         up.timer = None;
     }
 
-    /// A send chance: the vector to be sent, if the station sends.
-    fn take_chance(&mut self, eta: u64) -> Option<Vec<u64>> {
+    /// A send chance: what is to be sent, if the station sends.
+    fn take_chance(&mut self, eta: u64, tick: u64) -> Option<Carries> {
         let number = self.number;
         let up = self.up.as_mut()?;
         if up.waiting {
-            self.kept_leader = up.leader;
+            match up.knows {
+                Knows::Counts { .. } => self.kept_leader = up.leader,
+                Knows::Stamps { .. } if up.leader == NOBODY => up.leader = number,
+                Knows::Stamps { timeout, .. } if up.leader != number => up.timer = Some(tick + timeout),
+                Knows::Stamps { .. } => {} // it trusts itself
+            }
             up.waiting = false;
         }
         up.chance += eta;
-        if up.leader == number {
-            Some(up.recovered.clone())
-        } else {
-            None
+        if up.leader != number {
+            return None;
+        }
+        match &up.knows {
+            Knows::Counts { recovered, .. } => Some(Carries::Counts(recovered.clone())),
+            Knows::Stamps { own, .. } => Some(Carries::Stamp(*own)),
+        }
+    }
+}
+
+impl Up {
+    /// The timeout of the trusted leader; a clock head has but one.
+    fn timeout(&self) -> u64 {
+        match &self.knows {
+            Knows::Counts { timeout, .. } => timeout[at(self.leader)],
+            Knows::Stamps { timeout, .. } => *timeout,
+        }
+    }
+
+    /// What the listing shows: the vector or the own stamp.
+    fn shown(&self) -> String {
+        match &self.knows {
+            Knows::Counts { recovered, .. } => {
+                let counts: Vec<String> = recovered.iter().map(u64::to_string).collect();
+                counts.join(",")
+            }
+            Knows::Stamps { own, .. } => own.to_string(),
         }
     }
 }
 
 impl Desk {
-    fn set_up(n: u64, eta: u64) -> Desk {
+    fn set_up(heads: Heads, n: u64, eta: u64) -> Desk {
         let mut delay = vec![vec![1; n as usize]; n as usize];
         for i in 0..n as usize {
             delay[i][i] = 0;
         }
         let stations = (1..=n).map(Station::new).collect();
-        Desk { n, eta, tick: 0, stations, rank: vec![0; n as usize], delay, under_way: Vec::new() }
+        Desk { heads, n, eta, tick: 0, stations, rank: vec![0; n as usize], delay, under_way: Vec::new() }
     }
 
     fn one_tick(&mut self) {
@@ -143,7 +227,7 @@ impl Desk {
         self.under_way = rest;
         due.sort_by_key(|m| (m.to, m.from, m.sent_at));
         for m in due {
-            self.stations[at(m.to)].hear(m.from, &m.recovered, &self.rank, tick);
+            self.stations[at(m.to)].hear(m.from, &m.carries, &self.rank, tick);
         }
 
         // (b) timers due
@@ -161,13 +245,13 @@ impl Desk {
             if !chance {
                 continue;
             }
-            let Some(recovered) = s.take_chance(self.eta) else { continue };
+            let Some(carries) = s.take_chance(self.eta, tick) else { continue };
             s.sent += self.n - 1;
             for to in (1..=self.n).filter(|&to| to != from) {
                 let delay = self.delay[at(from)][at(to)];
                 if delay != 0 {
-                    let recovered = recovered.clone();
-                    self.under_way.push(Message { from, to, sent_at: tick, due: tick + delay, recovered });
+                    let carries = carries.clone();
+                    self.under_way.push(Message { from, to, sent_at: tick, due: tick + delay, carries });
                 }
             }
         }
@@ -176,17 +260,7 @@ impl Desk {
     fn listing(&self) -> String {
         let mut text = format!("tick {}\n", self.tick);
         for s in &self.stations {
-            let (word, leader, recovered) = match &s.up {
-                Some(up) => {
-                    let counts: Vec<String> = up.recovered.iter().map(u64::to_string).collect();
-                    ("up", up.leader.to_string(), counts.join(","))
-                }
-                None => ("down", "-".to_string(), "-".to_string()),
-            };
-            text += &format!(
-                "{} {word} leader {leader} inc {} rec {recovered} sent {} kept {}\n",
-                s.number, s.kept_count, s.sent, s.kept_leader
-            );
+            text += &self.line(s);
         }
         let leaders: Vec<Option<u64>> = self.stations.iter().map(|s| s.up.as_ref().map(|up| up.leader)).collect();
         let finding = last_line(&leaders);
@@ -195,11 +269,25 @@ impl Desk {
         text
     }
 
+    /// A station's line. `-` stands for what it has not.
+    fn line(&self, s: &Station) -> String {
+        let none = "-".to_string();
+        let (word, leader, known) = match &s.up {
+            Some(up) if up.leader == NOBODY => ("up", none.clone(), up.shown()),
+            Some(up) => ("up", up.leader.to_string(), up.shown()),
+            None => ("down", none.clone(), none.clone()),
+        };
+        let (count, name, kept) = match self.heads {
+            Heads::Flash => (s.kept_count.to_string(), "rec", s.kept_leader.to_string()),
+            Heads::Clock => (none.clone(), "stamp", none),
+        };
+        format!("{} {word} leader {leader} inc {count} {name} {known} sent {} kept {kept}\n", s.number, s.sent)
+    }
+
     /// Soundness, in the paper's order. What this desk has no place for (unused places, beyond n) needs no test.
     fn sound(&self) -> bool {
         let (n, eta, tick) = (self.n, self.eta, self.tick);
         let station = |x: u64| 1 <= x && x <= n;
-        let counts = |v: &[u64]| v.len() as u64 == n && v.iter().all(|&c| c <= LAST_COUNT);
 
         let mut good = (2..=8).contains(&n) && (16..=255).contains(&eta) && tick <= LAST_TICK;
         for from in 1..=n {
@@ -211,21 +299,24 @@ impl Desk {
         good &= self.rank.len() as u64 == n && self.rank.iter().all(|&r| r <= LAST_RANK);
         for s in &self.stations {
             good &= station(s.kept_leader) && s.kept_count <= LAST_COUNT && s.sent <= 7 * tick;
-            let Some(up) = &s.up else { continue };
-            good &= station(up.leader) && counts(&up.recovered);
-            good &= s.kept_count >= 1 && up.recovered[at(s.number)] >= 1;
-            for other in 1..=n {
-                let t = up.timeout[at(other)];
-                good &= if other == s.number { t == 0 } else { eta <= t && t <= 4350 + tick };
-            }
-            good &= match up.timer {
-                None => up.leader == s.number,
-                Some(end) => up.leader != s.number && tick < end && end <= tick + up.timeout[at(up.leader)],
+            good &= match self.heads {
+                Heads::Flash => self.sound_flash(s),
+                Heads::Clock => self.sound_clock(s),
             };
-            good &= tick < up.chance && up.chance <= tick + eta + LAST_COUNT;
+            let Some(up) = &s.up else { continue };
+            good &= match up.timer {
+                None => up.leader == s.number || up.leader == NOBODY,
+                Some(end) => station(up.leader) && up.leader != s.number && tick < end && end <= tick + up.timeout(),
+            };
+            good &= tick < up.chance;
         }
         for (i, m) in self.under_way.iter().enumerate() {
-            good &= station(m.from) && station(m.to) && m.from != m.to && counts(&m.recovered);
+            good &= station(m.from) && station(m.to) && m.from != m.to;
+            good &= match (self.heads, &m.carries) {
+                (Heads::Flash, Carries::Counts(counts)) => self.counts(counts),
+                (Heads::Clock, Carries::Stamp(stamp)) => self.read_by_now(*stamp),
+                _ => false,
+            };
             good &= m.sent_at <= tick && tick < m.due && m.due <= m.sent_at + LONGEST_DELAY;
             if let Some(up) = &self.stations[at(m.from)].up {
                 good &= up.chance >= m.sent_at + eta;
@@ -239,6 +330,42 @@ impl Desk {
         }
         good
     }
+
+    fn counts(&self, v: &[u64]) -> bool {
+        v.len() as u64 == self.n && v.iter().all(|&c| c <= LAST_COUNT)
+    }
+
+    /// Whether a clock could read this at some tick so far.
+    fn read_by_now(&self, clock: u64) -> bool {
+        self.eta <= clock && clock <= self.eta + self.tick
+    }
+
+    /// What soundness asks of a flash head by itself.
+    fn sound_flash(&self, s: &Station) -> bool {
+        let (eta, tick) = (self.eta, self.tick);
+        let Some(up) = &s.up else { return true };
+        let Knows::Counts { recovered, timeout } = &up.knows else { return false };
+        let mut good = up.leader != NOBODY && self.counts(recovered);
+        good &= s.kept_count >= 1 && recovered[at(s.number)] >= 1;
+        for other in 1..=self.n {
+            let t = timeout[at(other)];
+            good &= if other == s.number { t == 0 } else { eta <= t && t <= 4350 + tick };
+        }
+        good && up.chance <= tick + eta + LAST_COUNT
+    }
+
+    /// The same of a clock head, paper 6.
+    fn sound_clock(&self, s: &Station) -> bool {
+        let (eta, tick) = (self.eta, self.tick);
+        let nothing_kept = s.kept_count == 0 && s.kept_leader == s.number && self.rank[at(s.number)] == 0;
+        let Some(up) = &s.up else { return nothing_kept };
+        let Knows::Stamps { own, lowest, timeout } = up.knows else { return false };
+        nothing_kept
+            && [own, lowest, timeout].iter().all(|&clock| self.read_by_now(clock))
+            && lowest <= own
+            && up.chance <= tick + eta + tick
+            && (up.leader != NOBODY || up.waiting)
+    }
 }
 
 /// Does the first command of the bytes: its length and whether it is a report, or the refusal, with the state as it was.
@@ -250,7 +377,7 @@ fn command(state: &mut Option<Desk>, bytes: &[u8]) -> Result<(usize, bool), u64>
     }
     let Some(&name) = bytes.first() else { return Err(2) };
     let operands = match name {
-        1 => 2,
+        1 | 9 => 2,
         2 | 3 => 1,
         4 => 3,
         5 | 6 => 2,
@@ -264,7 +391,7 @@ fn command(state: &mut Option<Desk>, bytes: &[u8]) -> Result<(usize, bool), u64>
     let operand = |i: usize| bytes[i] as u64;
     let done = Ok((1 + operands, name == 7));
 
-    if name == 1 {
+    if name == 1 || name == 9 {
         let (n, eta) = (operand(1), operand(2));
         if state.is_some() {
             return Err(4);
@@ -275,7 +402,8 @@ fn command(state: &mut Option<Desk>, bytes: &[u8]) -> Result<(usize, bool), u64>
         if eta < 16 || eta > 255 {
             return Err(6);
         }
-        *state = Some(Desk::set_up(n, eta));
+        let heads = if name == 1 { Heads::Flash } else { Heads::Clock };
+        *state = Some(Desk::set_up(heads, n, eta));
         return done;
     }
 
@@ -293,7 +421,7 @@ fn command(state: &mut Option<Desk>, bytes: &[u8]) -> Result<(usize, bool), u64>
             if s.kept_count == LAST_COUNT {
                 return Err(10);
             }
-            s.start(desk.n, desk.eta, desk.tick);
+            s.start(desk.heads, desk.n, desk.eta, desk.tick);
         }
         3 => {
             if no_station(operand(1)) {
@@ -333,6 +461,9 @@ fn command(state: &mut Option<Desk>, bytes: &[u8]) -> Result<(usize, bool), u64>
         }
         8 => {
             let (of, rank) = (operand(1), operand(2));
+            if desk.heads == Heads::Clock {
+                return Err(25);
+            }
             if no_station(of) {
                 return Err(7);
             }

@@ -1,5 +1,6 @@
 // schedules COUNT SEED DIR: writes DIR/1.bin to DIR/COUNT.bin, schedules for the rehearsal program, and DIR/kinds, a
-// line for each with its number and its kind. The same seed and number always give the same schedule.
+// line for each with its number, its heads (flash or clock) and its kind. The same seed and number always give the same
+// schedule.
 
 mod random;
 
@@ -15,9 +16,10 @@ const RUN: u8 = 5;
 const LOSE: u8 = 6;
 const REPORT: u8 = 7;
 const RANK: u8 = 8;
+const CLOCK_SETUP: u8 = 9;
 
 /// How many operands each command has, by its byte.
-const WIDTHS: [u64; 9] = [0, 2, 1, 1, 3, 2, 2, 0, 2];
+const WIDTHS: [u64; 10] = [0, 2, 1, 1, 3, 2, 2, 0, 2, 2];
 
 const LAST_TICK: u64 = 1_000_000;
 const LONGEST_DELAY: u64 = 255;
@@ -26,41 +28,46 @@ const LAST_RANK: u64 = 7;
 /// A schedule under construction, with as much of the state as is needed to know what is accepted.
 struct Plan {
     random: Random,
+    clock: bool,
     bytes: Vec<u8>,
     n: u64,
     eta: u64,
     tick: u64,
     up: Vec<bool>,
     starts: Vec<u64>,
+    started: Vec<u64>, // the tick of the latest start
     ranks: Vec<u64>,
     rank_bytes: usize,
     report_percent: u64,
 }
 
 impl Plan {
-    fn new(random: Random) -> Plan {
+    fn new(random: Random, clock: bool) -> Plan {
         Plan {
             random,
+            clock,
             bytes: Vec::new(),
             n: 0,
             eta: 0,
             tick: 0,
             up: vec![],
             starts: vec![],
+            started: vec![],
             ranks: vec![],
             rank_bytes: 0,
             report_percent: 85,
         }
     }
 
-    /// With ranks, more often than not.
+    /// With ranks, more often than not; clock heads have none.
     fn set_up(&mut self, n: u64, eta: u64) {
-        self.bytes.extend([SETUP, n as u8, eta as u8]);
+        self.bytes.extend([if self.clock { CLOCK_SETUP } else { SETUP }, n as u8, eta as u8]);
         (self.n, self.eta, self.tick) = (n, eta, 0);
         self.up = vec![false; n as usize + 1];
         self.starts = vec![0; n as usize + 1];
+        self.started = vec![0; n as usize + 1];
         self.ranks = vec![0; n as usize + 1];
-        if self.random.percent(60) {
+        if !self.clock && self.random.percent(60) {
             self.rank_all();
         }
     }
@@ -105,6 +112,7 @@ impl Plan {
         self.bytes.extend([START, s as u8]);
         self.up[s as usize] = true;
         self.starts[s as usize] += 1;
+        self.started[s as usize] = self.tick;
     }
 
     fn crash(&mut self, s: u64) {
@@ -114,7 +122,7 @@ impl Plan {
 
     fn start_some(&mut self) {
         if let Some(s) = self.some(false) {
-            if self.starts[s as usize] < 4095 {
+            if self.clock || self.starts[s as usize] < 4095 {
                 self.start(s);
             }
         }
@@ -134,7 +142,22 @@ impl Plan {
         }
     }
 
-    /// Whether no station was ever started; ranks are accepted only then.
+    /// How long the latest start of this station made its start-up wait. So long are its timeouts at first, too.
+    fn wait(&self, s: u64) -> u64 {
+        self.eta + if self.clock { self.started[s as usize] } else { self.starts[s as usize] }
+    }
+
+    /// The tick in which that wait ends.
+    fn wait_end(&self, s: u64) -> u64 {
+        self.started[s as usize] + self.wait(s)
+    }
+
+    /// The up clock head that was started first: with the lowest stamp and, of equal ones, the lowest number.
+    fn oldest(&self) -> Option<u64> {
+        (1..=self.n).filter(|&s| self.up[s as usize]).min_by_key(|&s| self.started[s as usize])
+    }
+
+    /// Whether no station was ever started; ranks are accepted only then, and of flash heads.
     fn fresh(&self) -> bool {
         self.starts.iter().all(|&starts| starts == 0)
     }
@@ -236,6 +259,20 @@ impl Plan {
         }
     }
 
+    /// The same where one run may be too short.
+    fn run_far_to(&mut self, tick: u64) {
+        while self.tick < tick.min(LAST_TICK) {
+            self.run_to(tick);
+        }
+    }
+
+    /// To the tick before this one, to this one, and to the next.
+    fn run_around(&mut self, tick: u64) {
+        self.run_far_to(tick - 1);
+        self.run(1);
+        self.run(1);
+    }
+
     /// Some stations that differ, by rank and then number but for the last, which is any.
     fn some_of(&mut self, many: usize) -> Vec<u64> {
         let mut left: Vec<u64> = (1..=self.n).collect();
@@ -248,8 +285,11 @@ impl Plan {
         taken
     }
 
-    /// Mostly short runs, and many that end near a beat.
+    /// Mostly short runs, and many that end near a beat; with clock heads, others that end near the end of a wait.
     fn run_some(&mut self) {
+        if self.clock && self.random.percent(25) && self.run_wait() {
+            return;
+        }
         let ticks = match self.random.range(0, 9) {
             0..=2 => 1,
             3 => self.random.range(2, 5),
@@ -262,6 +302,20 @@ impl Plan {
         self.run(ticks);
     }
 
+    /// To the end of some up head's wait or, after that, as long as its timeout was at first; a tick less, or more.
+    /// Seldom where that is long, as it is longer with each late start. Answers whether anything was run.
+    fn run_wait(&mut self) -> bool {
+        let Some(s) = self.some(true) else { return false };
+        let waiting = self.wait_end(s) > self.tick;
+        let ticks = if waiting { self.wait_end(s) - self.tick } else { self.wait(s) };
+        if ticks > 1000 && self.random.percent(90) {
+            return false;
+        }
+        let ticks = ticks + self.random.range(0, 2) - 1;
+        self.run(ticks);
+        true
+    }
+
     /// How many bytes to aim at: mostly 20 to 150, at most 400, and those of the ranks so far.
     fn aim(&mut self) -> usize {
         let high = self.random.pick(&[60, 100, 150, 150, 250, 400]);
@@ -270,7 +324,7 @@ impl Plan {
 
     /// Any accepted command, by weights: start, crash, link, run, lose, report. Before the first start a rank, too.
     fn step(&mut self, weights: [u64; 6]) {
-        if self.fresh() && self.random.percent(20) {
+        if !self.clock && self.fresh() && self.random.percent(20) {
             self.rank_some();
             return;
         }
@@ -329,8 +383,11 @@ fn unstable(p: &mut Plan) {
             }
             p.start(s);
         }
-        let ticks = p.eta + p.starts[s as usize] + p.random.range(0, 4) - 1;
-        p.run(ticks);
+        // a clock head's wait is longer each time
+        if !p.clock || p.random.percent(50) {
+            let ticks = p.wait(s) + p.random.range(0, 4) - 1;
+            p.run(ticks);
+        }
         p.run_some();
     }
 }
@@ -560,6 +617,252 @@ fn ranked(p: &mut Plan) {
     p.report();
 }
 
+/// A clock head starts late and so waits long. It may hear another in its wait, and that one may go silent before the
+/// wait ends: then it is trusted until the timer, reset at the end of the wait, ends.
+fn waits(p: &mut Plan) {
+    let n = p.random.range(2, 5);
+    let eta = p.random.range(16, 24);
+    p.set_up(n, eta);
+    p.report_percent = 95;
+    let two = p.some_of(2);
+    let (first, late) = (two[0], two[1]);
+    if p.random.percent(50) {
+        p.start_all();
+        p.crash(late);
+    } else {
+        p.start(first);
+    }
+    let moment = p.random.range(0, 4 * eta);
+    p.run_to(moment);
+    p.start(late);
+    let end = p.wait_end(late);
+    let silent = match p.random.range(0, 4) {
+        0 => moment,
+        1 => end + 1,
+        _ => p.random.range(moment, end + 1),
+    };
+    p.run_to(silent);
+    match p.random.range(0, 3) {
+        0 => {}
+        1 => p.link(first, late, 0),
+        2 => {
+            let delay = p.random.range(2, LONGEST_DELAY);
+            p.link(first, late, delay);
+        }
+        _ => p.crash(first),
+    }
+    p.run_around(end);
+    p.run_around(end + p.wait(late));
+    p.run_some();
+}
+
+/// A clock head is trusted by one that started late and so has a long timeout, and starts again: its new stamp is not
+/// adopted, although it is trusted, and so the timer ends.
+fn again(p: &mut Plan) {
+    let n = p.random.range(2, 4);
+    let eta = p.random.range(16, 24);
+    p.set_up(n, eta);
+    p.report_percent = 95;
+    let two = p.some_of(2);
+    let (first, late) = (two[0], two[1]);
+    p.start(first);
+    let moment = p.random.range(2 * eta, 6 * eta);
+    p.run_to(moment);
+    p.start(late);
+    p.run(eta + 1);
+    p.crash(first);
+    let ticks = p.random.pick(&[0, 0, 1, eta / 2]);
+    if ticks != 0 {
+        p.run(ticks);
+    }
+    p.start(first);
+    let mut moments = [p.wait_end(first), p.wait_end(first) + eta, p.wait_end(late), p.wait_end(late) + p.wait(late)];
+    moments.sort();
+    for moment in moments {
+        p.run_around(moment);
+    }
+    p.run_some();
+}
+
+/// The link from the leading clock head is cut after a beat, over and over: each time it is given up a tick later.
+fn given_up(p: &mut Plan) {
+    let n = p.random.range(2, 4);
+    let eta = p.random.range(16, 24);
+    p.set_up(n, eta);
+    p.report_percent = 95;
+    let two = p.some_of(2);
+    let (first, other) = (two[0], two[1]);
+    p.start(first);
+    // with equal stamps the lower number leads
+    let gap = p.random.range((first > other) as u64, eta / 2);
+    p.run_to(gap);
+    p.start(other);
+    if p.random.percent(20) {
+        p.start_all();
+    }
+    let end = p.wait_end(other);
+    p.run_to(end);
+    for times in 0..p.random.range(2, 7) {
+        let mut beat = p.wait_end(first);
+        while beat <= p.tick {
+            beat += eta;
+        }
+        p.run_to(beat + 1); // it is heard
+        p.link(first, other, 0);
+        p.run_around(beat + 1 + p.wait(other) + times);
+        p.link(first, other, 1);
+    }
+    p.run_some();
+}
+
+/// Clock heads that start in the same tick have equal stamps: the lower number leads, in whatever order they are heard.
+/// The one that leads crashes, over and over, and those that are down start together.
+fn equals(p: &mut Plan) {
+    let n = p.random.range(3, 8);
+    let eta = p.random.range(16, 24);
+    p.set_up(n, eta);
+    let most = p.random.pick(&[3, eta, 3 * eta]);
+    for from in 1..=n {
+        for to in (1..=n).filter(|&to| to != from) {
+            if p.random.percent(60) {
+                let delay = p.random.range(1, most);
+                p.link(from, to, delay);
+            }
+        }
+    }
+    let moment = p.random.pick(&[0, 0, 0, 1, 7, eta]);
+    p.run_to(moment);
+    let aim = p.bytes.len() + 30 + p.aim() / 2;
+    while p.bytes.len() < aim {
+        for s in 1..=n {
+            if !p.up[s as usize] && p.random.percent(80) {
+                p.start(s);
+            }
+        }
+        let Some(first) = p.oldest() else { continue };
+        let end = p.wait_end(first);
+        p.run_to(end);
+        for _ in 0..p.random.range(2, 6) {
+            let ticks = p.random.range(1, 1 + most / 2);
+            p.run(ticks);
+        }
+        if p.random.percent(80) {
+            p.crash(first);
+        }
+        p.run_some();
+    }
+    p.report();
+}
+
+/// The leading clock head crashes and starts again, before or after another leads. Its stamp is a later one now, so it
+/// does not take the lead back.
+fn comeback(p: &mut Plan) {
+    let n = p.random.range(2, 5);
+    let eta = p.random.range(16, 24);
+    p.set_up(n, eta);
+    let mut order: Vec<u64> = (1..=n).collect();
+    for last in (1..order.len()).rev() {
+        order.swap(last, p.random.range(0, last as u64) as usize);
+    }
+    for s in order {
+        p.start(s);
+        let ticks = p.random.pick(&[0, 0, 1, 3, eta, eta + 1]);
+        if ticks != 0 {
+            p.run(ticks);
+        }
+    }
+    let ticks = p.random.range(eta, 2 * eta);
+    p.run(ticks);
+    for _ in 0..p.random.range(1, 4) {
+        let Some(first) = p.oldest() else { break };
+        p.crash(first);
+        let ticks = p.random.pick(&[0, 1, eta / 2, eta, eta + 1, 2 * eta, 3 * eta]);
+        if ticks != 0 {
+            p.run(ticks);
+        }
+        p.start(first);
+        let ticks = p.random.range(1, 2 * eta);
+        p.run(ticks);
+        if p.random.percent(70) {
+            let end = p.wait_end(first);
+            p.run_around(end);
+        }
+        p.step([20, 5, 15, 50, 10, 0]);
+    }
+    p.run_some();
+}
+
+/// Messages of a clock head stay under way for long while it crashes, and may be heard after its next start: the old
+/// stamp is adopted by those that have given the head up.
+fn stale(p: &mut Plan) {
+    let n = p.random.range(2, 4);
+    let eta = p.random.range(16, 20);
+    p.set_up(n, eta);
+    p.report_percent = 95;
+    let first = p.station();
+    for to in (1..=n).filter(|&to| to != first) {
+        let delay = if p.random.percent(70) { p.random.range(40, LONGEST_DELAY) } else { p.random.range(1, 20) };
+        p.link(first, to, delay);
+    }
+    p.start(first);
+    let ticks = p.random.range(1, eta);
+    p.run(ticks);
+    p.start_all();
+    let ticks = p.random.range(eta, 6 * eta);
+    p.run(ticks);
+    p.crash(first);
+    for _ in 0..p.random.range(6, 16) {
+        if !p.up[first as usize] && p.random.percent(15) {
+            p.start(first);
+        }
+        if p.random.percent(10) {
+            p.step([20, 20, 30, 0, 30, 0]);
+        }
+        let ticks = p.random.range(1, 2 * eta);
+        p.run(ticks);
+    }
+}
+
+/// A clock head starts at a late tick, so that its wait and its timeout are long; some end at the last tick or beyond.
+fn late(p: &mut Plan) {
+    p.set_up_any();
+    let s = p.station();
+    for other in (1..=p.n).filter(|&other| other != s) {
+        if p.random.percent(70) {
+            p.start(other);
+        }
+    }
+    let (half, third) = ((LAST_TICK - p.eta) / 2, (LAST_TICK - 2 * p.eta) / 3);
+    let moment = match p.random.range(0, 6) {
+        0..=1 => p.random.range(200, 60_000),
+        2 => p.random.range(60_000, third),
+        3 => third + p.random.range(0, 2) - 1,
+        4 => half + p.random.range(0, 2) - 1,
+        5 => LAST_TICK - p.random.range(0, 1),
+        _ => p.random.range(third, LAST_TICK),
+    };
+    p.run_far_to(moment);
+    p.start(s);
+    p.report();
+    p.run_some();
+    for _ in 0..p.random.range(0, 2) {
+        p.step([10, 30, 40, 0, 20, 0]);
+    }
+    let end = p.wait_end(s);
+    p.run_around(end);
+    if p.random.percent(50) {
+        while let Some(other) = (1..=p.n).find(|&other| other != s && p.up[other as usize]) {
+            p.crash(other);
+        }
+    }
+    p.run_around(end + p.wait(s));
+    p.run_around(end + p.wait(s) + p.eta);
+    p.report();
+    if p.tick == LAST_TICK && p.random.percent(50) {
+        p.bytes.extend([RUN, 1, 0]);
+    }
+}
+
 fn lose(p: &mut Plan) {
     p.set_up_any();
     p.start_all();
@@ -598,7 +901,11 @@ fn boundary(p: &mut Plan) {
         let n = p.random.pick(&[1, 2, 8, 9]) as u8;
         let eta = p.random.pick(&[15, 16, 255]) as u8;
         let rank = p.random.pick(&[0, 7, 7, 8]) as u8;
-        p.bytes.extend([SETUP, n, eta, RANK, 1, rank, START, 1, REPORT]);
+        if p.clock {
+            p.bytes.extend([CLOCK_SETUP, n, eta, START, 1, REPORT, RANK, 1, rank]);
+        } else {
+            p.bytes.extend([SETUP, n, eta, RANK, 1, rank, START, 1, REPORT]);
+        }
         return;
     }
     let n = p.random.pick(&[2, 8]);
@@ -668,13 +975,14 @@ fn far(p: &mut Plan) {
     }
 }
 
-/// A head that is started until its count is 4095, and others that hear of it.
+/// A head that is started until its count is 4095, and others that hear of it. A clock head has no count, and is
+/// started more often.
 fn wear(p: &mut Plan) {
     let n = p.random.range(2, 4);
     let eta = p.random.pick(&[16, 20, 255]);
     p.set_up(n, eta);
     let s = p.station();
-    let last = p.random.pick(&[4093, 4094, 4094, 4095, 4095]);
+    let last = if p.clock { p.random.range(4095, 4100) } else { p.random.pick(&[4093, 4094, 4094, 4095, 4095]) };
     let first_run = p.random.range(1, 4000);
     for round in 1..=last {
         p.start(s);
@@ -694,11 +1002,11 @@ fn wear(p: &mut Plan) {
         }
     }
     p.report();
-    // its wait is now eta + count long
-    if !p.up[s as usize] && p.starts[s as usize] < 4095 {
+    // its wait is now eta + count long, or to the tick eta + twice this one
+    if !p.up[s as usize] && (p.clock || p.starts[s as usize] < 4095) {
         p.start(s);
     }
-    let ticks = eta + p.starts[s as usize] - 1;
+    let ticks = p.wait(s) - 1;
     p.run(ticks);
     p.run(1);
     p.run(1);
@@ -709,7 +1017,7 @@ fn wear(p: &mut Plan) {
         p.crash(s);
     }
     p.report();
-    p.bytes.extend([START, s as u8]); // refused at 4095
+    p.bytes.extend([START, s as u8]); // refused at 4095 of a flash head
     p.run_some();
     p.report();
 }
@@ -731,13 +1039,14 @@ fn refusal(p: &mut Plan) {
     let s = if p.n == 0 { 1 } else { p.station() };
     let above = p.n + 1;
     let wrong = p.random.pick(&[0, above, 9, 255]);
+    let setup = if p.random.percent(50) { SETUP } else { CLOCK_SETUP };
     match p.random.range(1, 14) {
         1 => {
-            let byte = p.random.pick(&[0, 9, 10, 16, 127, 128, 255]);
+            let byte = p.random.pick(&[0, 10, 10, 11, 16, 127, 128, 255]);
             p.bytes.push(byte as u8);
         }
         2 => {
-            let name = p.random.pick(&[1, 2, 3, 4, 5, 6, 8]) as u8;
+            let name = p.random.pick(&[1, 2, 3, 4, 5, 6, 8, 9, 9]) as u8;
             let there = p.random.range(0, WIDTHS[name as usize] - 1);
             p.bytes.push(name);
             for _ in 0..there {
@@ -755,19 +1064,20 @@ fn refusal(p: &mut Plan) {
             }
         }
         3 | 4 if p.n != 0 => {
+            // of either kind
             let n = p.random.pick(&[0, 1, 2, 8, 9, 255]) as u8;
             let eta = p.random.pick(&[0, 15, 16, 255]) as u8;
-            p.bytes.extend([SETUP, n, eta]);
+            p.bytes.extend([setup, n, eta]);
         }
         5 if p.n == 0 => {
             let n = p.random.pick(&[0, 1, 9, 255]) as u8;
             let eta = p.random.pick(&[0, 15, 16, 255]) as u8;
-            p.bytes.extend([SETUP, n, eta]);
+            p.bytes.extend([setup, n, eta]);
         }
         4 | 6 if p.n == 0 => {
             let n = p.random.pick(&[2, 8]) as u8;
             let eta = p.random.pick(&[0, 1, 15]) as u8;
-            p.bytes.extend([SETUP, n, eta]);
+            p.bytes.extend([setup, n, eta]);
         }
         5..=7 => match p.random.range(0, 6) {
             0 => p.bytes.extend([START, wrong as u8]),
@@ -791,6 +1101,12 @@ fn refusal(p: &mut Plan) {
         }
         10 => p.bytes.extend([LINK, s as u8, s as u8, 65]),
         11 => p.bytes.extend([LOSE, s as u8, s as u8]),
+        12 | 13 if p.n != 0 && p.clock => {
+            // clock heads have no ranks, whatever the operands
+            let of = p.random.pick(&[s, wrong]) as u8;
+            let rank = p.random.pick(&[0, 1, 7, 8, 255]) as u8;
+            p.bytes.extend([RANK, of, rank]);
+        }
         12 if p.n == 0 => {
             // all operands, or too few
             let there = p.random.range(0, 2) as usize;
@@ -821,7 +1137,7 @@ fn refusal(p: &mut Plan) {
     }
     // bytes that must not be reached
     for _ in 0..p.random.range(0, 4) {
-        let byte = p.random.range(0, 8) as u8;
+        let byte = p.random.range(0, 9) as u8;
         p.bytes.push(byte);
     }
 }
@@ -871,17 +1187,18 @@ fn damaged(p: &mut Plan) {
         // seldom in the set up, so that something runs
         let low = if p.random.percent(20) { 0 } else { 3 };
         let place = p.random.range(low, length - 1) as usize;
-        match p.random.range(0, 5) {
+        match p.random.range(0, 6) {
             0 => p.bytes[place] = p.random.byte(),
-            1 => p.bytes[place] = p.random.range(0, 9) as u8,
+            1 => p.bytes[place] = p.random.range(0, 10) as u8,
             2 => p.bytes[place] ^= 1 << p.random.range(0, 7),
             3 => {
-                let byte = p.random.range(0, 9) as u8;
+                let byte = p.random.range(0, 10) as u8;
                 p.bytes.insert(place, byte);
             }
             4 => {
                 p.bytes.remove(place);
             }
+            5 => p.bytes[0] ^= SETUP ^ CLOCK_SETUP, // mostly heads of the other kind
             _ => {
                 if p.random.percent(50) {
                     p.bytes.truncate(place);
@@ -900,7 +1217,7 @@ fn noise(p: &mut Plan) {
         p.set_up_any();
     }
     for _ in 0..p.random.range(1, 60) {
-        let byte = if p.random.percent(90) { p.random.range(0, 9) as u8 } else { p.random.byte() };
+        let byte = if p.random.percent(90) { p.random.range(0, 10) as u8 } else { p.random.byte() };
         p.bytes.push(byte);
     }
 }
@@ -923,47 +1240,55 @@ fn huge(p: &mut Plan) {
     }
 }
 
-type Kind = (u64, &'static str, fn(&mut Plan));
+type Kind = (u64, u64, &'static str, fn(&mut Plan));
 
-/// How many of each kind in 2,000.
-const KINDS: [Kind; 23] = [
-    (235, "valid", valid),
-    (170, "storm", storm),
-    (130, "unstable", unstable),
-    (140, "slow", slow),
-    (130, "cut", cut),
-    (150, "overtake", overtake),
-    (80, "collide", collide),
-    (60, "informed", informed),
-    (60, "restarted", restarted),
-    (60, "ranked", ranked),
-    (110, "lose", lose),
-    (90, "reports", reports),
-    (100, "boundary", boundary),
-    (220, "refused", refused),
-    (30, "missing", missing),
-    (150, "damaged", damaged),
-    (40, "noise", noise),
-    (24, "long", long),
-    (8, "far", far),
-    (8, "wear", wear),
-    (2, "huge", huge),
-    (2, "empty", |_| {}),
-    (1, "still", |p| p.set_up_any()),
+/// How many of each kind in 3,000, of flash heads and of clock heads: 2,000 and 1,000.
+const KINDS: [Kind; 30] = [
+    (235, 80, "valid", valid),
+    (170, 60, "storm", storm),
+    (130, 50, "unstable", unstable),
+    (140, 65, "slow", slow),
+    (130, 55, "cut", cut),
+    (150, 60, "overtake", overtake),
+    (80, 50, "collide", collide),
+    (60, 0, "informed", informed),
+    (60, 0, "restarted", restarted),
+    (60, 0, "ranked", ranked),
+    (0, 50, "waits", waits),
+    (0, 25, "again", again),
+    (0, 35, "given up", given_up),
+    (0, 50, "equals", equals),
+    (0, 45, "comeback", comeback),
+    (0, 45, "stale", stale),
+    (0, 10, "late", late),
+    (110, 45, "lose", lose),
+    (90, 40, "reports", reports),
+    (100, 40, "boundary", boundary),
+    (220, 90, "refused", refused),
+    (30, 10, "missing", missing),
+    (150, 60, "damaged", damaged),
+    (40, 15, "noise", noise),
+    (24, 9, "long", long),
+    (8, 4, "far", far),
+    (8, 5, "wear", wear),
+    (2, 1, "huge", huge),
+    (2, 0, "empty", |_| {}),
+    (1, 1, "still", |p| p.set_up_any()),
 ];
 
-fn schedule(seed: u64, number: u64) -> (&'static str, Vec<u8>) {
+fn schedule(seed: u64, number: u64) -> (String, Vec<u8>) {
     let mut seeds = Random(seed);
     let mut random = Random(seeds.next() ^ number.wrapping_mul(0xD1B5_4A32_D192_ED03));
-    let total: u64 = KINDS.iter().map(|k| k.0).sum();
+    let total: u64 = KINDS.iter().map(|k| k.0 + k.1).sum();
     let mut x = random.range(1, total);
-    for (weight, name, make) in KINDS {
-        if x <= weight {
-            let mut plan = Plan::new(random);
+    for (flash, clock, name, make) in KINDS {
+        if x <= flash + clock {
+            let heads = if x <= flash { "flash" } else { "clock" };
+            let mut plan = Plan::new(random, x > flash);
             make(&mut plan);
-            return (name, plan.bytes);
+            return (format!("{heads} {name}"), plan.bytes);
         }
-        x -= weight;
+        x -= flash + clock;
     }
     unreachable!()
 }

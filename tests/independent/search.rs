@@ -1,6 +1,9 @@
-// The last line of a listing in plain Rust: by the words of Paper 2, and by Paper 4's search, with the station where that ends.
+// The last line of a listing in plain Rust: by the words of Papers 2 and 6, and by Paper 4's search, with the station
+// where that ends.
 
 use std::fmt;
+
+pub const NOBODY: u64 = 0; // the leader of an up station that has none, paper 6
 
 #[derive(Debug, PartialEq)]
 pub enum Finding {
@@ -27,7 +30,9 @@ pub fn last_line(stations: &[Option<u64>]) -> Finding {
     let trusted: Vec<u64> = stations.iter().copied().flatten().collect();
     let is_up = |number: u64| (1..).zip(stations).any(|(other, station)| other == number && station.is_some());
     let Some(&leader) = trusted.last() else { return Finding::Dark };
-    if !trusted.iter().all(|&other| other == leader) {
+    if trusted.contains(&NOBODY) {
+        Finding::Split // paper 6
+    } else if !trusted.iter().all(|&other| other == leader) {
         Finding::Split
     } else if is_up(leader) {
         Finding::Agreed(leader)
@@ -45,7 +50,7 @@ pub fn search(stations: impl IntoIterator<Item = Option<u64>>) -> (Finding, u64)
     for station in stations {
         number += 1;
         let Some(leader) = station else { continue };
-        if agreed.map_or(false, |other| other != leader) {
+        if leader == NOBODY || agreed.map_or(false, |other| other != leader) {
             return (Finding::Split, number);
         }
         // Where all up stations trust L and L is up, L trusts itself; so it is met here, at its own number.

@@ -1,12 +1,12 @@
 // searches COUNT SEED PROGRAM: hands COUNT tables to PROGRAM on its standard input and compares what its searches for
-// agreement find, and where they end, with what Papers 2 and 4 mean. Prints how often each finding came and where, the first
-// cases that differ and 'N passed, M failed'.
+// agreement find, and where they end, with what Papers 2, 4 and 6 mean. Prints how often each finding came and where,
+// those that ended at a station without a leader by themselves, the first cases that differ and 'N passed, M failed'.
 
 mod random;
 mod search;
 
 use random::Random;
-use search::{last_line, search, Finding};
+use search::{last_line, search, Finding, NOBODY};
 use std::io::Write;
 use std::process::{Command, Stdio};
 
@@ -36,6 +36,7 @@ impl Table {
         let second_percent = random.pick(&[30, 50, 100]);
         let up_percent = random.pick(&[0, 15, 40, 60, 80, 80, 95, 95, 100]);
         let left_percent = random.pick(&[0, 0, 50, 100]);
+        let nobody_percent = random.pick(&[0, 0, 0, 0, 10, 30, 60]); // clock heads in their start-up wait
         let mut table = Table { number, n: n as usize, leaders: [0; PLACES], up: [false; PLACES] };
         for place in 0..table.n {
             let trusted = if place as u64 + 1 < from {
@@ -50,7 +51,7 @@ impl Table {
             table.up[place] = random.percent(up_percent);
             // what a down station trusted may be left over
             if table.up[place] || random.percent(left_percent) {
-                table.leaders[place] = trusted;
+                table.leaders[place] = if random.percent(nobody_percent) { NOBODY } else { trusted };
             }
         }
         if random.percent(25) {
@@ -135,13 +136,14 @@ fn only_split(so_far: &mut Vec<Option<u64>>, n: usize, ways: &[Option<u64>]) -> 
 }
 
 /// The first up station after which the line can only be `split`, else n. A later station may be down, or up and trust
-/// any of 0 to n or a leader that occurs in the table; of more than TRIED stations, the first up one's or none that occurs.
+/// nobody, any of 1 to n or a leader that occurs in the table; of more than TRIED stations, the first up one's or none
+/// that occurs.
 fn end(stations: &[Option<u64>], leaders: &[u64]) -> u64 {
     let n = stations.len();
     let mut trusted: Vec<u64> = if n <= TRIED {
-        (0..=n as u64).chain(leaders.iter().copied()).collect()
+        (NOBODY..=n as u64).chain(leaders.iter().copied()).collect()
     } else {
-        let new = (0..).find(|leader| !leaders.contains(leader)).expect("there are more numbers than stations");
+        let new = (1..).find(|leader| !leaders.contains(leader)).expect("there are more numbers than stations");
         stations.iter().copied().flatten().take(1).chain([new]).collect()
     };
     trusted.sort();
@@ -180,10 +182,11 @@ fn run(program: &str, text: &str) -> (String, Option<String>) {
     (String::from_utf8_lossy(&output.stdout).into_owned(), wrong)
 }
 
-/// What was compared: tables by finding and by the station where the search ended.
+/// What was compared: tables by finding and by the station where the search ended. Where that one has no leader they
+/// are counted by themselves.
 #[derive(Default)]
 struct Tally {
-    found: [[u64; PLACES + 1]; 4],
+    found: [[u64; PLACES + 1]; 5],
     passed: u64,
     failed: u64,
 }
@@ -218,7 +221,8 @@ impl Tally {
                 Finding::Dark => 0,
                 Finding::Agreed(_) => 1,
                 Finding::AgreedDark(_) => 2,
-                Finding::Split => 3,
+                Finding::Split if table.leaders[ended as usize - 1] != NOBODY => 3,
+                Finding::Split => 4,
             };
             self.found[row][ended as usize] += 1;
             if line == expected {
@@ -241,7 +245,7 @@ impl Tally {
             print!("{place:>9}");
         }
         println!();
-        for (name, row) in ["dark", "agreed", "agreed dark", "split"].iter().zip(&self.found) {
+        for (name, row) in ["dark", "agreed", "agreed dark", "split", "split, nobody"].iter().zip(&self.found) {
             print!("{name:<14}");
             for times in row {
                 print!("{times:>9}");
