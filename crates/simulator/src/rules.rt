@@ -12,7 +12,7 @@ use decision::none_started;
 use decision::widths::width;
 use election::PLACES;
 use election::Refusal;
-use heads::start;
+use heads::rules::start;
 use layout::Layout;
 use layout::rules::place_of;
 use layout::rules::set_up;

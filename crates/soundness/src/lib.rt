@@ -15,8 +15,8 @@ use fit::cleared;
 use fit::counts_in;
 use fit::ranks_in;
 use fit::wide;
-use heads::content_in;
-use heads::fits;
+use heads::rules::content_in;
+use heads::rules::fits;
 use station::LAST_TICK;
 use station::Station;
 

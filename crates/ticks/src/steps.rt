@@ -2,7 +2,7 @@
 ghost use mathlib.Core.Path.{_≡_};
 ghost use Prim.Native.Nat.{_+_, _-_, _≤_};
 ghost use Rattle.ticks.specs.Sending.{timerEnds, sendsNow};
-use heads::announces;
+use heads::rules::announces;
 use station::Station;
 
 // Whether the timer of an up station is due now.

@@ -7,7 +7,7 @@ use Rattle.soundness.proofs.station_place.Tie as tie
 use Rattle.soundness.proofs.station_place.Reads as reads
 use Rattle.soundness.proofs.station_place.Lts as lts
 use Rattle.soundness.proofs.empty_station.Reads as empty-station-reads
-use Rattle.heads.proofs.fits.Reads as fits-reads
+use Rattle.heads.proofs.rules.fits.Reads as fits-reads
 use Rattle.fit.proofs.wide.Reads as wide-reads
 
 wide-requires : tie.Need-wide-requires

@@ -1,7 +1,7 @@
--- The function start meets its contract.
+-- The function rules::start meets its contract.
 use borrow.Author.Needs.{needs}
-use Rattle.heads.proofs.start.Statement.{statement}
-use Rattle.heads.proofs.start.Tie as tie
+use Rattle.heads.proofs.rules.start.Statement.{statement}
+use Rattle.heads.proofs.rules.start.Tie as tie
 
 returns : tie.Need-returns
 returns c = rw (c .before .if1 .taken) (c .start .ensures)

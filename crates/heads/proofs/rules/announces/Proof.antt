@@ -1,7 +1,7 @@
--- The function announces meets its contract.
+-- The function rules::announces meets its contract.
 use borrow.Author.Needs.{needs}
-use Rattle.heads.proofs.announces.Statement.{statement}
-use Rattle.heads.proofs.announces.Tie as tie
+use Rattle.heads.proofs.rules.announces.Statement.{statement}
+use Rattle.heads.proofs.rules.announces.Tie as tie
 
 returns : tie.Need-returns
 returns c = rw (c .before .if1 .taken) (c .sends .ensures)

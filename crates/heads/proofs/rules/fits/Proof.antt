@@ -1,7 +1,7 @@
--- The function fits meets its contract.
+-- The function rules::fits meets its contract.
 use borrow.Author.Needs.{needs}
-use Rattle.heads.proofs.fits.Statement.{statement}
-use Rattle.heads.proofs.fits.Tie as tie
+use Rattle.heads.proofs.rules.fits.Statement.{statement}
+use Rattle.heads.proofs.rules.fits.Tie as tie
 
 returns : tie.Need-returns
 returns c = rw (c .before .if1 .taken) (c .fit .ensures)

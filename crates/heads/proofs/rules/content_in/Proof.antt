@@ -1,7 +1,7 @@
--- The function content_in meets its contract.
+-- The function rules::content_in meets its contract.
 use borrow.Author.Needs.{needs}
-use Rattle.heads.proofs.content_in.Statement.{statement}
-use Rattle.heads.proofs.content_in.Tie as tie
+use Rattle.heads.proofs.rules.content_in.Statement.{statement}
+use Rattle.heads.proofs.rules.content_in.Tie as tie
 
 returns : tie.Need-returns
 returns c = rw (c .before .before .before .before .before .if1 .taken) (cc)
