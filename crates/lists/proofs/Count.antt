@@ -13,6 +13,12 @@ unfolding countTo each
 count-none zero t h = refl
 count-none (suc n) t h = rw (h n (omega arith)) (count-none n t (λ k l. h k (omega arith)))
 
+-- two tests that say the same
+pub count-same : (n : ℕ) (t u : ℕ → Bool) → ((k : ℕ) → k < n → t k ≡ u k) → countTo n t ≡ countTo n u
+unfolding countTo each
+count-same zero t u h = refl
+count-same (suc n) t u h = rw (count-same n t u (λ k l. h k (omega arith)), h n (omega arith))
+
 -- where the test holds of one number alone
 pub count-one : (n j : ℕ) (t : ℕ → Bool) → j < n → t j ≡ true → ((k : ℕ) → k < n → k ≢ j → t k ≡ false) → countTo n t ≡ 1
 unfolding countTo each
