@@ -1,4 +1,4 @@
--- Demand 3 of the code.
+-- Demand 3 and Paper 7 of the code.
 use mathlib.Core.Path.{_≡_, refl, sym, ap, subst, _∙_}
 use mathlib.Core.List.{List, [], _∷_}
 use Prim.Native.Nat.{ℕ, zero, suc}
@@ -9,14 +9,16 @@ use lib.ListN.{length, take, drop, length-drop, take-append-drop}
 use Rattle.lists.specs.Every.{All}
 use Rattle.lists.proofs.Bools.{cond-elim}
 use Rattle.lists.proofs.Every.{all-left, all-right}
-use Rattle.settling.specs.OfCode.{Octets, Reachable, at-first, after-command, ObeysAs, obeyed, SettlingOfCode}
+use Rattle.settling.specs.OfCode.{Octets, Reachable, at-first, after-command, ObeysAs, RunsAs, obeyed, SettlingOfCode, SteadySettlingOfCode}
 use Rattle.election.specs.Commands.{Result, command}
-use Rattle.election.specs.Schedule.{End, follow, mostBytes, schedule}
+use Rattle.election.specs.Schedule.{End, follow, mostBytes, schedule, said as saidSchedule}
 use Rattle.settling.specs.Settling.{answered, given}
 use Rattle.election.specs.System.{fresh}
 use Rattle.election.specs.declared.Commanded.{Commanded}
+use Rattle.election.specs.declared.Scheduled.{Scheduled}
 use Rattle.election.specs.declared.System.{System}
-use Rattle.settling.proofs.H-Demand.{settling}
+use Rattle.settling.proofs.H-Steady.{steady-settling}
+use Rattle.settling.proofs.I-Demand.{settling}
 use Rattle.election.proofs.Follow.{follow-yes, follow-stops}
 
 octets-drop : (k : ℕ) (bytes : List ℕ) → Octets bytes → Octets (drop k bytes)
@@ -52,12 +54,30 @@ obeyed-answered f h [] s o r = refl
 obeyed-answered f h (e ∷ es) s o r =
     ap (obeyed f es) (ap (λ (x : Result). x .system) (h s e r (o .0))) ∙ obeyed-answered f h es (command s e .system) (o .1) (after-command e r (o .0))
 
+-- g's last system is the schedule's, and f answers what the rules give from there
+module _ (f : System → List ℕ → Commanded) (g : List ℕ → Scheduled) (obeys : ObeysAs f) (runs : RunsAs g) (bytes : List ℕ) (stretch : List (List ℕ)) (o : Octets bytes) (os : All Octets stretch) where
+  same-refusal : schedule bytes .refusal ≡ saidSchedule (g bytes) .refusal
+  same-refusal = ap (λ (x : End). x .refusal) (sym (runs bytes o))
+
+  same-system : schedule bytes .system ≡ g bytes .system
+  same-system = ap (λ (x : End). x .system) (sym (runs bytes o))
+
+  obeyed-given : ((k : ℕ) → answered (take k stretch) (schedule bytes .system) ≡ given (take k stretch) (schedule bytes .system))
+      → (k : ℕ) → obeyed f (take k stretch) (g bytes .system) ≡ given (take k stretch) (g bytes .system)
+  obeyed-given answers k =
+      subst (λ (s : System). obeyed f (take k stretch) s ≡ given (take k stretch) s) same-system
+      (obeyed-answered f obeys (take k stretch) (schedule bytes .system) (octets-take k stretch os) (schedule-reachable bytes o) ∙ answers k)
+
+pub steady-settling-of-code : SteadySettlingOfCode
+steady-settling-of-code f g obeys runs bytes stretch S d L o os ok flash first quiet =
+    let same : schedule bytes .system ≡ g bytes .system = same-system f g obeys runs bytes stretch o os in
+    let (settles, is-reached) =
+    steady-settling bytes stretch S d L (same-refusal f g obeys runs bytes stretch o os ∙ ok) (ap (λ (x : System). x .clock) same ∙ flash) (rw same first) (rw same quiet) in
+    (rw same at settles, sym same ∙ is-reached, obeyed-given f g obeys runs bytes stretch o os (settles .answers))
+
 pub settling-of-code-holds : SettlingOfCode
 settling-of-code-holds f g obeys runs bytes stretch d L o os ok flash first quiet =
-    let e : schedule bytes ≡ _ = sym (runs bytes o) in
-    let same : schedule bytes .system ≡ g bytes .system = ap (λ (x : End). x .system) e in
+    let same : schedule bytes .system ≡ g bytes .system = same-system f g obeys runs bytes stretch o os in
     let (settles, is-reached) =
-    settling bytes stretch d L (ap (λ (x : End). x .refusal) e ∙ ok) (ap (λ (x : System). x .clock) same ∙ flash) (rw same first) (rw same quiet) in
-    let all : (k : ℕ) → obeyed f (take k stretch) (schedule bytes .system) ≡ given (take k stretch) (schedule bytes .system) =
-    λ k. obeyed-answered f obeys (take k stretch) (schedule bytes .system) (octets-take k stretch os) (schedule-reachable bytes o) ∙ settles .answers k in
-    (rw same at settles, sym same ∙ is-reached, rw same at all)
+    settling bytes stretch d L (same-refusal f g obeys runs bytes stretch o os ∙ ok) (ap (λ (x : System). x .clock) same ∙ flash) (rw same first) (rw same quiet) in
+    (rw same at settles, sym same ∙ is-reached, obeyed-given f g obeys runs bytes stretch o os (settles .answers))

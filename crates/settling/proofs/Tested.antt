@@ -27,7 +27,7 @@ unfoldable pub every : {A : Type 0} → (A → Bool) → List A → Bool
 every t [] = true
 every t (x ∷ xs) = t x && every t xs
 
-every-all : {A : Type 0} (P : A → Type 0) (t : A → Bool) → ((x : A) → t x ≡ true → P x) → (xs : List A) → every t xs ≡ true → All P xs
+pub every-all : {A : Type 0} (P : A → Type 0) (t : A → Bool) → ((x : A) → t x ≡ true → P x) → (xs : List A) → every t xs ≡ true → All P xs
 unfolding every
 every-all P t f [] e = tt
 every-all P t f (x ∷ xs) e = let (a, b) = both (t x) (every t xs) e in (f x a, every-all P t f xs b)
@@ -36,7 +36,7 @@ every-all P t f (x ∷ xs) e = let (a, b) = both (t x) (every t xs) e in (f x a,
 unfoldable pub implies : Bool → Bool → Bool
 implies a b = not a || b
 
-implied : (a b : Bool) → implies a b ≡ true → a ≡ true → b ≡ true
+pub implied : (a b : Bool) → implies a b ≡ true → a ≡ true → b ≡ true
 unfolding implies
 implied true b e h = e
 implied false b e h = absurd (true≢false (sym h))
@@ -45,7 +45,7 @@ implied false b e h = absurd (true≢false (sym h))
 unfoldable pub pairs : ℕ → (ℕ → ℕ → Bool) → Bool
 pairs n t = allTo n (λ i. allTo n (λ j. implies (not (eqb (i + 1) (j + 1))) (t (i + 1) (j + 1))))
 
-pairs-at : (n : ℕ) (t : ℕ → ℕ → Bool) → pairs n t ≡ true → (p q : ℕ) → 1 ≤ p → p ≤ n → 1 ≤ q → q ≤ n → p ≢ q → t p q ≡ true
+pub pairs-at : (n : ℕ) (t : ℕ → ℕ → Bool) → pairs n t ≡ true → (p q : ℕ) → 1 ≤ p → p ≤ n → 1 ≤ q → q ≤ n → p ≢ q → t p q ≡ true
 unfolding pairs
 pairs-at n t e p q lp hp lq hq ne =
     let a : p - 1 + 1 ≡ p = omega arith in
@@ -79,7 +79,7 @@ eachTest t [] s = true
 eachTest t (e ∷ []) s = implies (accepted s e) (t (decode e) s)
 eachTest t (e ∷ f ∷ es) s = implies (accepted s e) (t (decode e) s) && eachTest t (f ∷ es) (after s e)
 
-each-of : (P : Command → System → Type 0) (t : Command → System → Bool) → ((c : Command) (s : System) → t c s ≡ true → P c s) → (es : List (List ℕ)) (s : System) → eachTest t es s ≡ true → Each P es s
+pub each-of : (P : Command → System → Type 0) (t : Command → System → Bool) → ((c : Command) (s : System) → t c s ≡ true → P c s) → (es : List (List ℕ)) (s : System) → eachTest t es s ≡ true → Each P es s
 unfolding eachTest
 each-of P t h [] s g = tt
 each-of P t h (e ∷ []) s g = ((λ a. h (decode e) s (implied (accepted s e) _ g a)), tt)
@@ -118,7 +118,7 @@ losesNoneTest (Lose p q) s = implies (station s p .up) (implies (station s q .up
 losesNoneTest Report s = true
 losesNoneTest (Rank p r) s = true
 
-empty-of : {A : Type 0} (xs : List A) → every (λ x. false) xs ≡ true → xs ≡ []
+pub empty-of : {A : Type 0} (xs : List A) → every (λ x. false) xs ≡ true → xs ≡ []
 unfolding every
 empty-of [] e = refl
 empty-of (x ∷ xs) e = absurd (true≢false (sym e))

@@ -1,12 +1,14 @@
--- The leader that demand 3 speaks of: whenever a head is up there is one, and only one; with equal ranks it is document 01's.
+-- The leader that demand 3 and Paper 7 speak of: whenever a head is up, or is in the set, there is one, and only one; with equal ranks that of demand 3
+-- is document 01's.
 use mathlib.Core.Path.{_≡_}
 use mathlib.Core.Logic.{_⊎_, _≢_, _↔_}
 use mathlib.Core.List.{List}
-use mathlib.Core.Bool.{true, false}
+use mathlib.Core.Bool.{Bool, true, false}
 use Prim.Native.Nat.{ℕ, _<_, _≤_}
 use Rattle.election.specs.Commands.{Command}
 use Rattle.election.specs.History.{starts, isUp, rankOf}
 use Rattle.settling.specs.Settling.{First, SettlingOf}
+use Rattle.settling.specs.Steady.{FirstAmong}
 
 -- whenever a head is up there is one
 abbrev pub LeaderExists : Type 0
@@ -15,6 +17,13 @@ LeaderExists = (n : ℕ) (cs : List Command) (p : ℕ) → 1 ≤ p → p ≤ n �
 -- and there are no two
 abbrev pub OneLeader : Type 0
 OneLeader = (n : ℕ) (cs : List Command) (L K : ℕ) → First n cs L → First n cs K → L ≡ K
+
+-- and so of the first of a set of heads
+abbrev pub FirstExists : Type 0
+FirstExists = (S : ℕ → Bool) (n : ℕ) (cs : List Command) (p : ℕ) → 1 ≤ p → p ≤ n → S p ≡ true → (L : ℕ) × FirstAmong S n cs L
+
+abbrev pub OneFirst : Type 0
+OneFirst = (S : ℕ → Bool) (n : ℕ) (cs : List Command) (L K : ℕ) → FirstAmong S n cs L → FirstAmong S n cs K → L ≡ K
 
 -- document 01's leader: the up head with fewest starts, the lowest number on a tie
 pub record Fewest (n : ℕ) (cs : List Command) (L : ℕ) : Type 0 where

@@ -1,13 +1,14 @@
--- Demand 3 of the code: of any two functions that meet the contracts of the operations Command and Schedule.
+-- Demand 3 and Paper 7 of the code: of any two functions that meet the contracts of the operations Command and Schedule.
 use mathlib.Core.Path.{_≡_}
 use mathlib.Core.List.{List, [], _∷_}
-use mathlib.Core.Bool.{false}
+use mathlib.Core.Bool.{Bool, false}
 use Prim.Native.Nat.{ℕ, _^_, _<_}
 use lib.ListN.{length, take}
 use Rattle.lists.specs.Every.{All}
 use Rattle.election.specs.Commands.{Bytes, command, said as saidCommand}
 use Rattle.election.specs.Schedule.{schedule, said as saidSchedule}
 use Rattle.settling.specs.Settling.{First, Quiet, given, Settles}
+use Rattle.settling.specs.Steady.{FirstAmong, QuietAmong, SettlesAmong}
 use Rattle.election.specs.History.{commands, reached}
 use Rattle.election.specs.System.{fresh}
 use Rattle.election.specs.declared.Commanded.{Commanded}
@@ -48,6 +49,19 @@ SettlingOfCode =
     → First (g bytes .system .n) (commands bytes) L
     → Quiet d stretch (g bytes .system)
     → Settles d L stretch (g bytes .system)
+    × (g bytes .system ≡ reached (commands bytes) fresh)
+    × ((k : ℕ) → obeyed f (take k stretch) (g bytes .system) ≡ given (take k stretch) (g bytes .system))
+
+-- and the same of the heads of S, while the others start and crash
+abbrev pub SteadySettlingOfCode : Type 0
+SteadySettlingOfCode =
+    (f : System → List ℕ → Commanded) (g : List ℕ → Scheduled) → ObeysAs f → RunsAs g
+    → (bytes : List ℕ) (stretch : List (List ℕ)) (S : ℕ → Bool) (d L : ℕ) → Octets bytes → All Octets stretch
+    → saidSchedule (g bytes) .refusal ≡ 0
+    → g bytes .system .clock ≡ false
+    → FirstAmong S (g bytes .system .n) (commands bytes) L
+    → QuietAmong S d L (commands bytes) stretch (g bytes .system)
+    → SettlesAmong S d L stretch (g bytes .system)
     × (g bytes .system ≡ reached (commands bytes) fresh)
     × ((k : ℕ) → obeyed f (take k stretch) (g bytes .system) ≡ given (take k stretch) (g bytes .system))
 

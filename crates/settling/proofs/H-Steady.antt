@@ -1,0 +1,128 @@
+-- H. Who sends in a tick that is not divided; and the claim of steady heads, from the schedule's bytes and a list of byte strings.
+use mathlib.Core.Path.{_≡_, refl, sym, ap, _∙_}
+use mathlib.Core.Bool.{Bool, true, false, cond}
+use mathlib.Core.List.{List, [], _∷_}
+use Prim.Native.Nat.{ℕ, zero, suc, _+_, _-_, _*_, _/_, _≤_}
+use native.Mathlib.Omega.{arith}
+use lib.Dec.{eqb}
+use lib.ListN.{length, take}
+use borrow.Author.Tests.{not-false, eqb-true}
+use Rattle.lists.specs.Every.{All}
+use Rattle.lists.proofs.Bools.{cond-elim}
+use Rattle.lists.proofs.Every.{all-append}
+use Rattle.lists.proofs.Test.{all-at}
+use Rattle.station.specs.declared.Station.{Station}
+use Rattle.election.specs.Commands.{Command, SetUp, Start, Crash, Link, Run, Lose, Report, Rank, decode}
+use Rattle.election.specs.Schedule.{schedule}
+use Rattle.settling.specs.Settling.{moments, ticksOf, befores, answered, given}
+use Rattle.settling.specs.Steady.{AllUp, MoreStarts, dividedAmong, dividedTicksAmong, QuietAmong, headsAmong, boundAmong, SteadySettling}
+use Rattle.election.specs.History.{accepted, after, commands}
+use Rattle.election.specs.System.{station, fresh}
+use Rattle.election.specs.Tick.{sending, tick}
+use Rattle.election.specs.declared.System.{System}
+use Rattle.settling.proofs.A0-Flash.{flash-ticked, sending-self}
+use Rattle.election.proofs.Followed.{rules-system, Followed, accepted-schedule}
+use Rattle.settling.proofs.E2-Follower.{slot-leader}
+use Rattle.election.proofs.Counts.{FromFresh}
+use Rattle.election.proofs.Places.{In, tick-n, tick-clock}
+use Rattle.election.proofs.Ranks.{rank-is-latest}
+use Rattle.settling.proofs.F-Potential.{tri, tri-double}
+use Rattle.settling.proofs.A2-Reached.{Reached}
+use Rattle.settling.proofs.A3-Reaching.{Arrived}
+use Rattle.settling.proofs.A4-Moments.{Came, came-arrived, came-told, at-once, after-arrived, Flash, after-flash}
+use Rattle.settling.proofs.G3-Begins.{Led, from-here, begin-inv}
+use Rattle.settling.proofs.G5-Walk.{walk}
+
+-- After every prefix of a stretch Command answers what the rules give.
+pub answers : (k : ℕ) (es : List (List ℕ)) (s : System) → Arrived s → answered (take k es) s ≡ given (take k es) s
+unfolding answered given
+answers zero es s h = refl
+answers (suc k) [] s h = refl
+answers (suc k) (e ∷ es) s h =
+    ap (answered (take k es)) (rules-system s e (h .is-sound)) ∙ answers k es (after s e) (after-arrived s e h)
+
+-- At the end of a tick in which every head of S trusts L, whoever of them sent in it is L.
+abbrev Silent : (ℕ → Bool) → ℕ → System → Type 0
+Silent S L x = dividedAmong S L (tick x) ≡ false → (p : ℕ) → 1 ≤ p → p ≤ x .n → S p ≡ true → sending x p ≡ true → p ≡ L
+
+silent-tick : (S : ℕ → Bool) (L : ℕ) (x : System) → x .n ≤ 8 → x .clock ≡ false → Silent S L x
+silent-tick S L x small flash e p low high s t =
+    let ip : In (x .n) p = record { low = low; high = high } in
+    let back : p - 1 + 1 ≡ p = omega arith in
+    let at : cond (S (p - 1 + 1)) (eqb (station (tick x) (p - 1 + 1) .leader) L) true ≡ true = all-at (tick x .n) (p - 1) (λ k. cond (S (k + 1)) (eqb (station (tick x) (k + 1) .leader) L) true) (not-false _ e) (omega (arith, tick-n x)) in
+    let f : eqb (station (tick x) p .leader) L ≡ true = rw (back, s) at at in
+    let leads : station (tick x) p .leader ≡ p = ap (λ (y : Station). y .leader) (flash-ticked x flash small p ip) ∙ slot-leader (x .period) (x .tick + 1) _ ∙ sending-self x flash p t in
+    sym leads ∙ eqb-true _ _ f
+
+silent-run : (S : ℕ → Bool) (L t : ℕ) (x : System) → x .n ≤ 8 → x .clock ≡ false → All (Silent S L) (moments t x)
+unfolding moments
+silent-run S L zero x small flash = tt
+silent-run S L (suc t) x small flash = (silent-tick S L x small flash, silent-run S L t (tick x) (rw (tick-n x) small) (tick-clock x ∙ flash))
+
+silent-command : (S : ℕ → Bool) (L : ℕ) (c : Command) (x : System) → Reached x → All (Silent S L) (ticksOf c x)
+silent-command S L (SetUp clock n period) x h = tt
+silent-command S L (Start p) x h = tt
+silent-command S L (Crash p) x h = tt
+silent-command S L (Link p q d) x h = tt
+silent-command S L (Run t) x h = silent-run S L t x (h .sound .n-high) (h .flash)
+silent-command S L (Lose p q) x h = tt
+silent-command S L Report x h = tt
+silent-command S L (Rank p r) x h = tt
+
+silent : (S : ℕ → Bool) (L : ℕ) (es : List (List ℕ)) (x : System) → Arrived x → Flash x → All (Silent S L) (befores es x)
+unfolding befores
+silent S L [] x h f = tt
+silent S L (e ∷ es) x h f =
+    all-append (Silent S L) (cond (accepted x e) (ticksOf (decode e) x) []) (befores es (after x e))
+    (cond-elim (All (Silent S L)) (accepted x e) (λ t. silent-command S L (decode e) x (h .reached (f .0) (f .1))) (λ t. tt))
+    (silent S L es (after x e) (after-arrived x e h) (after-flash x e f))
+
+-- (k - 1)(d - 1)(d - 2) / 2
+half-of : (j m : ℕ) → j * (m + 1) * m / 2 ≡ j * tri m
+half-of j m =
+    let e : j * (m + 1) * m ≡ 2 * (j * tri m) = omega (arith, ap (λ x. j * x) (tri-double m)) in
+    omega arith
+
+half-small : (j : ℕ) → j * 0 * 0 / 2 ≡ j * tri 0
+unfolding tri
+half-small j = omega arith
+
+half : (k d : ℕ) → (k - 1) * (d - 1) * (d - 2) / 2 ≡ (k - 1) * tri (d - 2)
+half k zero = half-small (k - 1)
+half k (suc zero) = half-small (k - 1)
+half k (suc (suc m)) =
+    let a : suc (suc m) - 1 ≡ m + 1 = omega arith in
+    let b : suc (suc m) - 2 ≡ m = omega arith in
+    rw (a, b) (half-of (k - 1) m)
+
+-- From a reached system.
+few : (S : ℕ → Bool) (d L : ℕ) (cs : List Command) (es : List (List ℕ)) (s : System) (h : Reached s) → Led S s L → Came cs s → QuietAmong S d L cs es s → dividedTicksAmong S L (befores es s) ≤ boundAmong S d s
+unfolding headsAmong
+few S d L cs es s h led came q =
+    rw half
+    (walk (from-here s h S d L led) _ cs es s came (q .steady) (q .others) (q .none-lost) (q .none-cut) (q .within)
+    (record { inv = begin-inv s h S d L led (q .arriving); early = λ e. omega arith; late = λ e. omega (arith, h .sound .period-low) }))
+
+pub steady-settling : SteadySettling
+steady-settling bytes stretch S d L ok flash first quiet =
+    let f : Followed (length bytes) fresh bytes (schedule bytes) = accepted-schedule bytes ok in
+    let s : System = schedule bytes .system in
+    let cs : List Command = commands bytes in
+    let came : Came cs s = record { allowed = f .allowed; system = f .system } in
+    let a : Arrived s = came-arrived cs s came in
+    let g : FromFresh cs s = came-told cs s came in
+    let i : In (s .n) L = record { low = first .low; high = first .high } in
+    let ready : s .ready ≡ true = g .is-ready L i in
+    let h : Reached s = a .reached ready flash in
+    let up : AllUp S (s .n) cs = at-once (AllUp S (s .n)) cs stretch s (quiet .steady) in
+    let more : MoreStarts S (s .n) L cs = at-once (MoreStarts S (s .n) L) cs stretch s (quiet .others) in
+    let led : Led S s L =
+    record {
+      inside = i;
+      is-one = first .is-one;
+      ups = λ p ip c. g .latest p ip ∙ up p (ip .low) (ip .high) c;
+      least = λ p ip c ne.
+          rw (g .counted flash L i, g .counted flash p ip, rank-is-latest bytes ok L (i .low) (i .high), rank-is-latest bytes ok p (ip .low) (ip .high)) (first .least p (ip .low) (ip .high) c ne);
+      more = λ p ip u ns. rw (g .counted flash L i, g .counted flash p ip) (more p (ip .low) (ip .high) ns (sym (g .latest p ip) ∙ u));
+    } in
+    (record { few = few S d L cs stretch s h led came quiet; silent = silent S L stretch s a (ready, flash); answers = λ k. answers k stretch s a }, f .system)
