@@ -16,12 +16,12 @@ use Rattle.election.specs.declared.System.{System}
 use Rattle.election.proofs.Opened.{rules}
 use Rattle.election.proofs.Ruled.{ruled, byRules}
 use Rattle.election.proofs.Tables.{schedule-ruled}
-use Rattle.settling.specs.Instance.{bytes, begin, beforeLate}
-use Rattle.settling.specs.Restarting.{twoAndThree, restarts, Restarting, onlyTwo, beforeEqual, withEqual, AsManyStarts, withOld, LateFromUnsteady}
+use Rattle.settling.specs.Instance.{beforeLate}
+use Rattle.settling.specs.Restarting.{MeetsAmong, beforeRestarts, restarts, twoAndThree, begin, Restarting, onlyTwo, beforeCrashing, crashing, UpAtFirst, beforeEqual, withEqual, AsManyStarts, withOld, LateFromUnsteady}
 use Rattle.settling.specs.Settling.{moments, befores, given}
 use Rattle.settling.specs.Steady.{steadyIn, dividedTicksAmong, longestWaitAmong, longestTimeoutAmong, headsAmong}
 use Rattle.settling.proofs.Tested.{every, implies, pairs, eachTest}
-use Rattle.settling.proofs.TestedAmong.{heads, throughoutTest, allUpTest, moreTest, firstAmongTest, sentAmongTest, arrivingToTest, losesNoneAmongTest, FoundAmong, foundAmong, saysAmong}
+use Rattle.settling.proofs.TestedAmong.{heads, throughoutTest, allUpTest, moreTest, firstAmongTest, sentAmongTest, arrivingToTest, losesNoneAmongTest, FoundAmong, foundAmong, SaysAmong, saysAmong}
 
 -- every definition that is computed with: what unfolds this name unfolds them
 computing : Unit {0}
@@ -33,8 +33,20 @@ abbrev finding : Bool → Bool → Bool → Bool → Bool → Bool → Bool → 
 finding first steady others none-lost none-cut arriving within all-ticks divided bound =
     record { refusal = 0; flash = true; first = first; steady = steady; others = others; none-lost = none-lost; none-cut = none-cut; arriving = arriving; within = within; all-ticks = all-ticks; divided = divided; bound = bound }
 
--- the instance
-restarting-found : foundAmong twoAndThree (byRules bytes .end) (commands bytes) restarts 3 2 ≡ finding true true true true true true true 60 32 46
+meets-of : {S : ℕ → Bool} {bytes : List ℕ} {stretch : List (List ℕ)} {d L ticks unsettled limit : ℕ} → SaysAmong S bytes stretch d L (finding true true true true true true true ticks unsettled limit) → MeetsAmong S bytes stretch d L ticks unsettled limit
+meets-of s =
+    record {
+      accepted = s .accepted;
+      flash = s .flash refl;
+      first = s .first refl;
+      quiet = record { steady = s .steady refl; others = s .others refl; none-lost = s .none-lost refl; none-cut = s .none-cut refl; arriving = s .arriving refl; within = s .within refl };
+      all-ticks = s .all-ticks;
+      divided = s .divided;
+      bounded = s .bounded;
+    }
+
+-- a head that restarts twice
+restarting-found : foundAmong twoAndThree (byRules beforeRestarts .end) (commands beforeRestarts) restarts 3 2 ≡ finding true true true true true true true 62 34 47
 unfolding computing
 restarting-found = refl
 
@@ -42,71 +54,80 @@ record Seen : Type 0 where
   tick : ℕ
   steady : List Bool
   heads : ℕ
+  of-L : ℕ
   first : ℕ
   second : ℕ
   up : Bool
-  of-L : ℕ
-  sent : ℕ
-  more : ℕ
-  lost-first : ℕ
-  lost-then : List ℕ
+  apart : ℕ
+  sent1 : ℕ
+  sent3 : ℕ
+  more1 : ℕ
+  more3 : ℕ
   old : List ℕ
+  lost : ℕ
+  late : List ℕ
+  lost-then : List ℕ
   refused : ℕ
 
 unfoldable seen : System → Seen
 seen s =
     record {
       tick = s .tick;
-      steady = map (steadyIn (commands bytes) restarts s) (1 ∷ 2 ∷ 3 ∷ []);
+      steady = map (steadyIn (commands beforeRestarts) restarts s) (1 ∷ 2 ∷ 3 ∷ []);
       heads = headsAmong twoAndThree (s .n);
-      first = station (given (take 6 restarts) s) 1 .incarnation;
-      second = station (given (take 10 restarts) s) 1 .incarnation;
-      up = station (given restarts s) 1 .up;
       of-L = station s 2 .incarnation;
-      sent = sentBy s 1;
-      more = sentBy (given restarts s) 1;
-      lost-first = length (underway s 1 3);
-      lost-then = map (λ (m : Message). m .due) (underway (given (take 8 restarts) s) 1 3);
+      first = station (given (take 7 restarts) s) 1 .incarnation;
+      second = station (given (take 11 restarts) s) 1 .incarnation;
+      up = station (given restarts s) 1 .up;
+      apart = station (given restarts s) 1 .leader;
+      sent1 = sentBy s 1;
+      sent3 = sentBy s 3;
+      more1 = sentBy (given restarts s) 1;
+      more3 = sentBy (given restarts s) 3;
       old = map (λ (m : Message). m .due) (underway s 1 2);
-      refused = ruling (given (take 10 restarts) s) (start 2);
+      lost = length (underway s 1 3);
+      late = map (λ (m : Message). m .due) (underway s 2 1);
+      lost-then = map (λ (m : Message). m .due) (underway (given (take 9 restarts) s) 1 3);
+      refused = ruling (given (take 11 restarts) s) (start 2);
     }
 
-restarting-ruled : seen (byRules bytes .end .system)
-    ≡ record { tick = 35; steady = false ∷ true ∷ true ∷ []; heads = 2; first = 2; second = 3; up = true; of-L = 1; sent = 4; more = 8; lost-first = 1; lost-then = 117 ∷ []; old = 36 ∷ []; refused = 8 }
+restarting-ruled : seen (byRules beforeRestarts .end .system)
+    ≡ record { tick = 33; steady = false ∷ true ∷ true ∷ []; heads = 2; of-L = 1; first = 2; second = 3; up = true; apart = 1; sent1 = 4; sent3 = 0; more1 = 10; more3 = 4; old = 36 ∷ []; lost = 1; late = 81 ∷ []; lost-then = 115 ∷ []; refused = 8 }
 unfolding computing seen
 restarting-ruled = refl
 
-restarting-seen : seen begin ≡ seen (byRules bytes .end .system)
-restarting-seen = ap (λ (e : End). seen (e .system)) (schedule-ruled bytes refl)
+restarting-seen : seen begin ≡ seen (byRules beforeRestarts .end .system)
+restarting-seen = ap (λ (e : End). seen (e .system)) (schedule-ruled beforeRestarts refl)
 
 pub restarting : Restarting
 unfolding seen
 restarting =
-    let s = saysAmong twoAndThree bytes restarts 3 2 _ refl restarting-found in
     let all = restarting-seen ∙ restarting-ruled in
     record {
-      meets =
-          record {
-            accepted = s .accepted;
-            flash = s .flash refl;
-            first = s .first refl;
-            quiet = record { steady = s .steady refl; others = s .others refl; none-lost = s .none-lost refl; none-cut = s .none-cut refl; arriving = s .arriving refl; within = s .within refl };
-            all-ticks = s .all-ticks;
-            divided = s .divided;
-            bounded = s .bounded;
-          };
+      meets = meets-of (saysAmong twoAndThree beforeRestarts restarts 3 2 _ refl restarting-found);
       steady = ap (λ (x : Seen). x .steady) all;
       heads = ap (λ (x : Seen). x .heads) all;
+      of-L = ap (λ (x : Seen). x .of-L) all;
       first-start = ap (λ (x : Seen). x .first) all;
       second-start = ap (λ (x : Seen). x .second) all;
       up-again = ap (λ (x : Seen). x .up) all;
-      of-L = ap (λ (x : Seen). x .of-L) all;
-      sent = ap (λ (x : Seen). x .more) all ∙ ap (λ c. c + 4) (sym (ap (λ (x : Seen). x .sent) all));
-      lost-first = ap (λ (x : Seen). x .lost-first) all;
+      apart = ap (λ (x : Seen). x .apart) all;
+      sent = ap (λ (x : Seen). x .more1) all ∙ ap (λ c. c + 6) (sym (ap (λ (x : Seen). x .sent1) all));
+      sent-to-it = ap (λ (x : Seen). x .more3) all ∙ ap (λ c. c + 4) (sym (ap (λ (x : Seen). x .sent3) all));
+      old = ap (λ (x : Seen). x .old) all ∙ ap (λ t. (t + 3) ∷ []) (sym (ap (λ (x : Seen). x .tick) all));
+      lost = ap (λ (x : Seen). x .lost) all;
+      late = ap (λ (x : Seen). x .late) all ∙ ap (λ t. (t + 48) ∷ []) (sym (ap (λ (x : Seen). x .tick) all));
       lost-then = ap (λ (x : Seen). x .lost-then) all;
-      old = ap (λ (x : Seen). x .old) all ∙ ap (λ t. (t + 1) ∷ []) (sym (ap (λ (x : Seen). x .tick) all));
       refused = ap (λ (x : Seen). x .refused) all;
     }
+
+-- one that is up at first
+crashing-found : foundAmong onlyTwo (byRules beforeCrashing .end) (commands beforeCrashing) crashing 3 2 ≡ finding true true true true true true true 40 0 59
+unfolding computing
+crashing-found = refl
+
+pub up-at-first : UpAtFirst
+up-at-first = meets-of (saysAmong onlyTwo beforeCrashing crashing 3 2 _ refl crashing-found)
 
 -- as many starts as L
 equal-found : foundAmong onlyTwo (byRules beforeEqual .end) (commands beforeEqual) withEqual 1 2 ≡ finding true true false true true true true 60 43 36
