@@ -346,7 +346,7 @@ struct Row {
     figures: [u64; 3],
 }
 
-const ROWS: [Row; 7] = [
+const ROWS: [Row; 8] = [
     // Demand 3: nobody starts or crashes. The messages of the dead 1 are under way, and one to it.
     Row {
         schedule: "010310 04020140 0201 0202 051400 0203 04010203 04010303 050d00 0301 050200",
@@ -356,14 +356,27 @@ const ROWS: [Row; 7] = [
         missed: &[],
         figures: [38, 32, 46],
     },
-    // Paper 7, from the same state: 1 keeps restarting, with a cut link and a loss; the start of 2 is refused.
+    // Paper 7, from two ticks before: 1 restarts twice. Its messages are lost, cut and slow, and so are those to it; the start
+    // of 2 is refused.
     Row {
-        schedule: "010310 04020140 0201 0202 051400 0203 04010203 04010303 050d00 0301 050200",
-        stretch: &["04020303", "050500", "0201", "04010200", "050f00", "0202", "0301", "0201", "060102", "051200"],
+        schedule: "010310 04020140 0201 0202 051400 0203 04010203 04010303 050d00 0301",
+        stretch: &[
+            "060103", "060201", "04020303", "04010200", "04030100", "04010340", "0201", "051600", "0301", "060103", "0201",
+            "0202", "052800",
+        ],
         steady: &[2, 3],
         d: 3,
         missed: &[],
-        figures: [38, 32, 46],
+        figures: [62, 34, 47],
+    },
+    // 1 is up when the stretch begins, with a longer wait and longer timeouts than 2, and crashes in it.
+    Row {
+        schedule: "010210 0202 0201 0301 0201",
+        stretch: &["051400", "0301", "051400"],
+        steady: &[2],
+        d: 3,
+        missed: &[],
+        figures: [40, 0, 59],
     },
     // Each of the others misses one condition alone, and passes the bound. Here 1 has as many starts as L.
     Row {
@@ -374,10 +387,10 @@ const ROWS: [Row; 7] = [
         missed: &[Condition::Starts],
         figures: [60, 43, 36],
     },
-    // What 1 sent before it crashed needs up to 63 ticks; it restarts twice.
+    // What 1 sent before it crashed needs up to 63 ticks; it starts again over a cut link.
     Row {
         schedule: "010210 04010240 0201 0202 054200 0301",
-        stretch: &["0201", "051400", "0301", "0201", "052300"],
+        stretch: &["04010200", "0201", "053700"],
         steady: &[2],
         d: 1,
         missed: &[Condition::Arriving],
