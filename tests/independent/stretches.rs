@@ -361,22 +361,22 @@ const ROWS: [Row; 8] = [
     Row {
         schedule: "010310 04020140 0201 0202 051400 0203 04010203 04010303 050d00 0301",
         stretch: &[
-            "060103", "060201", "04020303", "04010200", "04030100", "04010340", "0201", "051600", "0301", "060103", "0201",
-            "0202", "052800",
+            "060103", "060201", "04020303", "04010200", "04030100", "04010314", "0201", "051600", "0301", "060103", "0201",
+            "0202", "060203", "052800",
         ],
         steady: &[2, 3],
         d: 3,
         missed: &[],
         figures: [62, 34, 47],
     },
-    // 1 is up when the stretch begins, with a longer wait and longer timeouts than 2, and crashes in it.
+    // 1 is up when the stretch begins, with a longer wait and longer timeouts than 2 and 3, and crashes in it.
     Row {
-        schedule: "010210 0202 0201 0301 0201",
+        schedule: "010310 04020303 04030203 04020100 04030100 0202 0203 0201 0301 0201",
         stretch: &["051400", "0301", "051400"],
-        steady: &[2],
+        steady: &[2, 3],
         d: 3,
         missed: &[],
-        figures: [40, 0, 59],
+        figures: [40, 19, 60],
     },
     // Each of the others misses one condition alone, and passes the bound. Here 1 has as many starts as L.
     Row {

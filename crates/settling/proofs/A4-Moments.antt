@@ -13,8 +13,8 @@ use Rattle.election.specs.declared.System.{System}
 use Rattle.election.proofs.Accepting.{Accepts, accepts, ruling-tests}
 use Rattle.election.proofs.Counts.{ready-after, n-after, clock-after, FromFresh, from-fresh}
 use Rattle.election.proofs.Followed.{Allowed, after-yes, after-no}
-use Rattle.settling.specs.Steady.{grown, Throughout, steadyIn, AllUp, SteadyOnes}
-use Rattle.settling.proofs.A3-Reaching.{Arrived, perform-arrived, fresh-arrived, reached-arrived}
+use Rattle.settling.specs.Steady.{withEntry, Throughout, isSteady, AllUp, SteadyOnes}
+use Rattle.settling.proofs.A3-Reaching.{Arrived, fresh-arrived, reached-arrived}
 
 -- one accepted command more
 allowed-more : (cs : List Command) (c : Command) (s : System) → Allowed cs s → firstFailed (tests (reached cs s) c) ≡ 0 → Allowed (cs ++ (c ∷ [])) s
@@ -28,22 +28,22 @@ reached-more [] c s = refl
 reached-more (b ∷ cs) c s = reached-more cs c (perform b s)
 
 -- the system is the one that the rules give for the commands cs, each accepted
-pub record Came (cs : List Command) (x : System) : Type 0 where
+pub record GivenBy (cs : List Command) (x : System) : Type 0 where
   pub allowed : Allowed cs fresh
   pub system : x ≡ reached cs fresh
 
-module _ (cs : List Command) (x : System) (h : Came cs x) where
-  pub came-arrived : Arrived x
-  came-arrived = subst Arrived (sym (h .system)) (reached-arrived cs fresh (h .allowed) fresh-arrived)
+module _ (cs : List Command) (x : System) (h : GivenBy cs x) where
+  pub given-arrived : Arrived x
+  given-arrived = subst Arrived (sym (h .system)) (reached-arrived cs fresh (h .allowed) fresh-arrived)
 
-  pub came-told : FromFresh cs x
-  came-told = subst (FromFresh cs) (sym (h .system)) (from-fresh cs (h .allowed))
+  pub given-told : FromFresh cs x
+  given-told = subst (FromFresh cs) (sym (h .system)) (from-fresh cs (h .allowed))
 
   -- after one entry of the stretch
-  pub came-after : (e : List ℕ) → Came (grown cs x e) (after x e)
-  came-after e = go (accepted x e) refl
+  pub given-after : (e : List ℕ) → GivenBy (withEntry cs x e) (after x e)
+  given-after e = go (accepted x e) refl
     where
-      go : (b : Bool) → accepted x e ≡ b → Came (cs ++ cond b (decode e ∷ []) []) (after x e)
+      go : (b : Bool) → accepted x e ≡ b → GivenBy (cs ++ cond b (decode e ∷ []) []) (after x e)
       go true t =
           record {
             allowed = allowed-more cs (decode e) fresh (h .allowed) (rw (h .system) at (ruling-tests x e (eqb-true _ _ t)));
@@ -57,17 +57,17 @@ module _ (cs : List Command) (x : System) (h : Came cs x) where
 
 -- the heads of S are up throughout exactly if each is steady
 module _ (S : ℕ → Bool) (n : ℕ) where
-  each-steady : (cs : List Command) (es : List (List ℕ)) (x : System) → Throughout (AllUp S n) cs es x → (p : ℕ) → 1 ≤ p → p ≤ n → S p ≡ true → steadyIn cs es x p ≡ true
-  unfolding steadyIn
+  each-steady : (cs : List Command) (es : List (List ℕ)) (x : System) → Throughout (AllUp S n) cs es x → (p : ℕ) → 1 ≤ p → p ≤ n → S p ≡ true → isSteady cs es x p ≡ true
+  unfolding isSteady
   each-steady cs [] x h p low high s = h p low high s
-  each-steady cs (e ∷ es) x h p low high s = rw (h .0 p low high s) (each-steady (grown cs x e) es (after x e) (h .1) p low high s)
+  each-steady cs (e ∷ es) x h p low high s = rw (h .0 p low high s) (each-steady (withEntry cs x e) es (after x e) (h .1) p low high s)
 
-  all-steady : (cs : List Command) (es : List (List ℕ)) (x : System) → ((p : ℕ) → 1 ≤ p → p ≤ n → S p ≡ true → steadyIn cs es x p ≡ true) → Throughout (AllUp S n) cs es x
-  unfolding steadyIn
+  all-steady : (cs : List Command) (es : List (List ℕ)) (x : System) → ((p : ℕ) → 1 ≤ p → p ≤ n → S p ≡ true → isSteady cs es x p ≡ true) → Throughout (AllUp S n) cs es x
+  unfolding isSteady
   all-steady cs [] x h = h
   all-steady cs (e ∷ es) x h = (
-    λ p low high s. both (isUp false p cs) (steadyIn (grown cs x e) es (after x e) p) (h p low high s) .0,
-    all-steady (grown cs x e) es (after x e) (λ p low high s. both (isUp false p cs) (steadyIn (grown cs x e) es (after x e) p) (h p low high s) .1),
+    λ p low high s. both (isUp false p cs) (isSteady (withEntry cs x e) es (after x e) p) (h p low high s) .0,
+    all-steady (withEntry cs x e) es (after x e) (λ p low high s. both (isUp false p cs) (isSteady (withEntry cs x e) es (after x e) p) (h p low high s) .1),
   )
 
 pub steady-ones : SteadyOnes
@@ -80,11 +80,7 @@ at-once P cs (e ∷ es) x h = h .0
 
 pub throughout-map : (P Q : List Command → Type 0) → ((ds : List Command) → P ds → Q ds) → (cs : List Command) (es : List (List ℕ)) (x : System) → Throughout P cs es x → Throughout Q cs es x
 throughout-map P Q f cs [] x h = f cs h
-throughout-map P Q f cs (e ∷ es) x h = (f cs (h .0), throughout-map P Q f (grown cs x e) es (after x e) (h .1))
-
-pub after-arrived : (s : System) (e : List ℕ) → Arrived s → Arrived (after s e)
-unfolding after
-after-arrived s e h = cond-elim Arrived (accepted s e) (λ t. perform-arrived (decode e) s (ruling-tests s e (eqb-true _ _ t)) h) (λ t. h)
+throughout-map P Q f cs (e ∷ es) x h = (f cs (h .0), throughout-map P Q f (withEntry cs x e) es (after x e) (h .1))
 
 -- Set up, with flash heads: so it stays.
 abbrev pub Flash : System → Type 0
@@ -99,7 +95,7 @@ after-flash s e (r, flash) =
     (ready-after (decode e) s r a, clock-after (decode e) s r a ∙ flash))
     (λ t. (r, flash))
 
--- with the stations that it has
+-- no entry changes the number of stations
 pub n-kept : (x : System) (e : List ℕ) → x .ready ≡ true → after x e .n ≡ x .n
 unfolding after
 n-kept x e r = cond-elim (λ (y : System). y .n ≡ x .n) (accepted x e) (λ t. n-after (decode e) x r (accepts (decode e) x (ruling-tests x e (eqb-true _ _ t)))) (λ t. refl)

@@ -1,6 +1,7 @@
 -- G. The invariant holds where a quiet stretch begins.
 use mathlib.Core.Path.{_≡_, refl, sym, _∙_}
 use mathlib.Core.Logic.{_≢_}
+use mathlib.Core.List.{List}
 use mathlib.Core.Bool.{Bool, true, false, cond, _&&_}
 use Prim.Native.Nat.{ℕ, _+_, _-_, _*_, _≤_, _<_, max}
 use native.Mathlib.Decide.{ℕ-discrete}
@@ -13,7 +14,8 @@ use Rattle.lists.proofs.Largest.{max-least}
 use Rattle.station.specs.Order.{entry, before}
 use Rattle.station.proofs.Candidates.{keyOf, before-key}
 use Rattle.fit.proofs.Tests.{fit-of}
-use Rattle.settling.specs.Steady.{ArrivingTo, longestWaitAmong, longestTimeoutAmong}
+use Rattle.settling.specs.Steady.{AllUp, OthersMoreNow, ArrivingTo, longestWaitAmong, longestTimeoutAmong}
+use Rattle.election.specs.Commands.{Command}
 use Rattle.election.specs.System.{station, underway}
 use Rattle.election.specs.declared.System.{System}
 use Rattle.settling.proofs.B-Calm.{Stretch, keyAt, keyL, rank-in, Calm}
@@ -23,17 +25,32 @@ use Rattle.settling.proofs.E3-Invariant.{Inv}
 use Rattle.settling.proofs.D-Deadline.{soonest-le}
 use Rattle.election.proofs.Places.{In}
 use Rattle.settling.proofs.E1-Phase.{early}
-use Rattle.election.proofs.Counts.{counts}
+use Rattle.election.proofs.Counts.{counts, FromFresh}
 use Rattle.settling.proofs.A2-Reached.{always, Low, Reached}
 use Rattle.election.proofs.Underway.{underway-due}
 
--- the heads of S are up, L is the first of them by count, rank and number, and every other up head has a higher count than L
-pub record Led (S : ℕ → Bool) (s : System) (L : ℕ) : Type 0 where
+-- at a moment of a stretch: the heads of S are up, and every other up head has a higher count than L
+pub record StillSteady (S : ℕ → Bool) (n L : ℕ) (x : System) : Type 0 where
+  pub ups : (p : ℕ) → In n p → S p ≡ true → station x p .up ≡ true
+  pub more : (p : ℕ) → In n p → station x p .up ≡ true → S p ≡ false → counts x L < counts x p
+
+-- the accepted commands say so
+pub still-steady : (S : ℕ → Bool) (n L : ℕ) (cs : List Command) (x : System) → In n L → x .n ≡ n → x .clock ≡ false → FromFresh cs x → AllUp S n cs → OthersMoreNow S n L cs → StillSteady S n L x
+still-steady S n L cs x iL e flash f up more =
+    record {
+      ups = λ p ip s. f .latest p (at p ip) ∙ up p (ip .low) (ip .high) s;
+      more = λ p ip u s. rw (f .counted flash L (at L iL), f .counted flash p (at p ip)) (more p (ip .low) (ip .high) s (sym (f .latest p (at p ip)) ∙ u));
+    }
+  where
+    at : (p : ℕ) → In n p → In (x .n) p
+    at p ip = rw e ip
+
+-- and L is the first of S by count, rank and number
+pub record FirstHere (S : ℕ → Bool) (s : System) (L : ℕ) : Type 0 where
   pub inside : In (s .n) L
-  pub is-one : S L ≡ true
-  pub ups : (p : ℕ) → In (s .n) p → S p ≡ true → station s p .up ≡ true
+  pub in-set : S L ≡ true
   pub least : (p : ℕ) → In (s .n) p → S p ≡ true → p ≢ L → before (counts s L) (entry (s .ranks) L) L (counts s p) (entry (s .ranks) p) p ≡ true
-  pub more : (p : ℕ) → In (s .n) p → station s p .up ≡ true → S p ≡ false → counts s L < counts s p
+  pub still : StillSteady S (s .n) L s
 
 module _ (S : ℕ → Bool) (s : System) where
   -- M is no shorter than any timeout of a head of S, W than any start-up wait left
@@ -59,7 +76,7 @@ module _ (S : ℕ → Bool) (s : System) where
       let c : f (p - 1) ≡ station s p .slot - s .tick = rw (ep, u, w) in
       omega arith
 
-module _ (s : System) (h : Reached s) (S : ℕ → Bool) (d L : ℕ) (first : Led S s L) where
+module _ (s : System) (h : Reached s) (S : ℕ → Bool) (d L : ℕ) (first : FirstHere S s L) where
   -- the stretch that begins with s; the heads of S are steady
   abbrev pub from-here : Stretch
   from-here =
@@ -78,7 +95,7 @@ module _ (s : System) (h : Reached s) (S : ℕ → Bool) (d L : ℕ) (first : Le
         small = h .sound .n-high;
         beats = omega (arith, h .sound .period-low);
         L-in = first .inside;
-        L-steady = first .is-one;
+        L-steady = first .in-set;
       }
 
   L-least : (p : ℕ) → In (s .n) p → S p ≡ true → keyL from-here ≤ keyAt from-here p
@@ -96,7 +113,7 @@ module _ (s : System) (h : Reached s) (S : ℕ → Bool) (d L : ℕ) (first : Le
 
   begin-calm : (p : ℕ) → In (s .n) p → S p ≡ true → Calm from-here p (s .tick + 1) (station s p)
   begin-calm p ip c =
-      let u : station s p .up ≡ true = first .ups p ip c in
+      let u : station s p .up ≡ true = first .still .ups p ip c in
       let a : Sane (s .ranks) (s .n) (s .period) always (counts s) p (s .tick + 1) (station s p) = h .heads p ip u in
       record {
         sane = record { own = a .own; low = λ q iq Sq. a .low q iq refl; range = a .range; ahead = a .ahead; slow = a .slow; on = a .on; off = a .off };
@@ -105,7 +122,7 @@ module _ (s : System) (h : Reached s) (S : ℕ → Bool) (d L : ℕ) (first : Le
       }
     where
       u : station s p .up ≡ true
-      u = first .ups p ip c
+      u = first .still .ups p ip c
 
       go : Dec (station s p .leader ≡ p) → station s p .leader ≢ L → keyOf (s .ranks) (station s p .recovered) (station s p .leader) ≤ keyL from-here → station s p .timer ≤ s .tick + longestTimeoutAmong S s + 2 * d
       go (yes e) ne le = let z : station s p .timer ≡ 0 = h .heads p ip u .off e in omega arith
@@ -114,13 +131,13 @@ module _ (s : System) (h : Reached s) (S : ℕ → Bool) (d L : ℕ) (first : Le
           omega (arith, timeout-below S s p (station s p .leader) ip (h .heads p ip u .range) np c)
 
   L-up : station s L .up ≡ true
-  L-up = first .ups L (first .inside) (first .is-one)
+  L-up = first .still .ups L (first .inside) (first .in-set)
 
   begin-hi : station s L .slot ≤ max (s .tick + longestWaitAmong S s) (s .tick + s .period)
   begin-hi = go (station s L .recovering) refl
     where
       go : (b : Bool) → station s L .recovering ≡ b → station s L .slot ≤ max (s .tick + longestWaitAmong S s) (s .tick + s .period)
-      go true w = omega (arith, wait-below S s L (first .inside) (first .is-one) w)
+      go true w = omega (arith, wait-below S s L (first .inside) (first .in-set) w)
       go false w = omega (arith, h .paced L (first .inside) L-up w)
 
   pub begin-inv : ArrivingTo S d s → Inv from-here s
@@ -130,9 +147,9 @@ module _ (s : System) (h : Reached s) (S : ℕ → Bool) (d L : ℕ) (first : Le
         same-period = refl;
         same-ranks = refl;
         reached = h;
-        ups = first .ups;
+        ups = first .still .ups;
         const = λ x ix u. refl;
-        surplus = first .more;
+        surplus = first .still .more;
         least = L-least;
         calm = begin-calm;
         mail = λ q p iq ip ne u.

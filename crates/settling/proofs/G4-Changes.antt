@@ -1,18 +1,18 @@
--- G. An entry that is no run: it leaves the steady heads and what is under way between them, so the invariant and the count of divided ticks to come.
+-- G. An entry that is no run: it leaves the steady heads and what is under way from L to them, so the invariant and the count of divided ticks to come.
 use mathlib.Core.Path.{_≡_, refl, sym, ap, _∙_}
 use mathlib.Core.Logic.{_≢_}
 use mathlib.Core.Bool.{Bool, true, false, cond, true≢false}
 use mathlib.Core.List.{[]}
 use Prim.Native.Nat.{ℕ, _+_, _≤_, _<_, zero-le}
-use native.Mathlib.Decide.{ℕ-discrete}
 use native.Mathlib.Nat.{le-of-eq, le-trans}
+use native.Mathlib.Omega.{arith}
 use lib.Dec.{eqb}
 use Rattle.fit.specs.Fit.{longestDelay}
 use Rattle.lists.specs.Every.{All}
 use Rattle.station.specs.declared.Station.{Station}
 use Rattle.election.specs.System.{withStation, withDelay, withoutMessages, station, underway}
 use Rattle.election.specs.declared.System.{System}
-use Rattle.election.proofs.Changes.{changed-same, changed-other}
+use Rattle.election.proofs.Changes.{changed-other}
 use Rattle.election.proofs.Counts.{counts}
 use Rattle.election.proofs.Places.{In, seat-in, widen}
 use Rattle.settling.proofs.A2-Reached.{Reached}
@@ -23,6 +23,7 @@ use Rattle.settling.proofs.E2-Follower.{spare}
 use Rattle.settling.proofs.E3-Invariant.{Coming, Inv, in-s}
 use Rattle.settling.proofs.F-Potential.{potIf}
 use Rattle.settling.proofs.G1-Sums.{sum-le}
+use Rattle.settling.proofs.G3-Begins.{StillSteady}
 use Rattle.settling.proofs.G2-Counting.{potOf, pots, Budget}
 
 -- y is what an entry leaves of x: steady heads are as they were, and so is what is under way to them from L; messages to them are as the invariant asks,
@@ -126,26 +127,21 @@ lose-leaves K x a b ia ib ne none h =
     within : (p : ℕ) → In (K .n) p → In 8 p
     within p ip = wide p (in-s K x h p ip)
 
--- an unsteady station becomes z, with more starts than L if it is up
-pub change-leaves : (K : Stretch) (x : System) (p : ℕ) → In (x .n) p → K .steady p ≡ false → (z : Station) → Reached (withStation p z x) → (z .up ≡ true → K .C (K .L) < z .incarnation) → Inv K x
+-- an unsteady station becomes z
+pub change-leaves : (K : Stretch) (x : System) (p : ℕ) → In (x .n) p → K .steady p ≡ false → (z : Station) → Reached (withStation p z x) → StillSteady (K .steady) (K .n) (K .L) (withStation p z x) → Inv K x
     → Leaves K x (withStation p z x)
-change-leaves K x p ip ns z r more h =
+change-leaves K x p ip ns z r still h =
     record {
       n = refl;
       period = refl;
       ranks = refl;
       tick = refl;
       reached = r;
-      heads = λ q iq u. changed-other x (h .reached .sound) p ip z q (iq .low) (λ e. true≢false (sym u ∙ ap (K .steady) e ∙ ns));
-      surplus = λ q iq. surplus q iq (ℕ-discrete q p);
+      heads = heads;
+      surplus = λ q iq u s. omega (arith, still .more q iq u s, ap (λ (y : Station). y .incarnation) (heads (K .L) (K .L-in) (K .L-steady)), h .const (K .L) (K .L-in) (K .L-steady));
       mail = h .mail;
       from-L = λ q iq u. refl;
     }
   where
-    surplus : (q : ℕ) → In (K .n) q → Dec (q ≡ p) → station (withStation p z x) q .up ≡ true → K .steady q ≡ false → K .C (K .L) < counts (withStation p z x) q
-    surplus q iq (yes e) u s =
-        let same : station (withStation p z x) q ≡ z = ap (station (withStation p z x)) e ∙ changed-same x (h .reached .sound) p ip z in
-        rw (ap (λ (y : Station). y .incarnation) same) (more (sym (ap (λ (y : Station). y .up) same) ∙ u))
-    surplus q iq (no ne) u s =
-        let same : station (withStation p z x) q ≡ station x q = changed-other x (h .reached .sound) p ip z q (iq .low) ne in
-        rw (ap (λ (y : Station). y .incarnation) same) (h .surplus q iq (sym (ap (λ (y : Station). y .up) same) ∙ u) s)
+    heads : (q : ℕ) → In (K .n) q → K .steady q ≡ true → station (withStation p z x) q ≡ station x q
+    heads q iq u = changed-other x (h .reached .sound) p ip z q (iq .low) (λ e. true≢false (sym u ∙ ap (K .steady) e ∙ ns))

@@ -3,7 +3,7 @@ use mathlib.Core.Path.{_≡_, refl, sym, ap, _∙_}
 use mathlib.Core.Logic.{_≢_}
 use mathlib.Core.Bool.{Bool, true, false, cond, not, true≢false}
 use mathlib.Core.List.{List, [], _∷_, _++_}
-use Prim.Native.Nat.{ℕ, zero, suc, _+_, _≤_, _<_, zero-le}
+use Prim.Native.Nat.{ℕ, zero, suc, _+_, _≤_, zero-le}
 use native.Mathlib.Omega.{arith}
 use borrow.Author.Tests.{eqb-true}
 use Rattle.lists.specs.Every.{All}
@@ -15,25 +15,25 @@ use Rattle.station.specs.declared.Station.{Station}
 use Rattle.station.proofs.Fields.{crashed-up}
 use Rattle.election.specs.Commands.{Command, SetUp, Start, Crash, Link, Run, Lose, Report, Rank, decode, perform}
 use Rattle.election.specs.Heads.{starting}
-use Rattle.election.specs.History.{accepted, after, starts}
+use Rattle.election.specs.History.{accepted, after}
 use Rattle.election.specs.System.{withStation, station, delay}
 use Rattle.election.specs.Tick.{tick, ticks}
 use Rattle.election.specs.declared.System.{System}
 use Rattle.election.proofs.Accepting.{Accepts, accepts, ruling-tests}
-use Rattle.election.proofs.Changes.{changed-same, changed-other}
-use Rattle.election.proofs.Counts.{counts, FromFresh}
+use Rattle.election.proofs.Changes.{changed-same}
 use Rattle.election.proofs.Followed.{after-yes, after-no}
 use Rattle.election.proofs.Places.{In, tick-tick}
 use Rattle.election.proofs.Ranks.{nobody-up}
 use Rattle.settling.specs.Settling.{moments, ticksOf, befores, Each}
-use Rattle.settling.specs.Steady.{grown, Throughout, AllUp, MoreStarts, dividedAmong, dividedTicksAmong, LosesNoneAmong, SentAmong}
+use Rattle.settling.specs.Steady.{withEntry, Throughout, AllUp, OthersMoreNow, dividedAmong, dividedTicksAmong, LosesNoneAmong, SentAmong}
 use Rattle.settling.proofs.A2-Reached.{Reached}
 use Rattle.settling.proofs.A3-Reaching.{start-reached, crash-reached}
-use Rattle.settling.proofs.A4-Moments.{Came, came-told, came-after, at-once, after-flash, n-kept}
+use Rattle.settling.proofs.A4-Moments.{GivenBy, given-told, given-after, at-once, after-flash, n-kept}
 use Rattle.settling.proofs.B-Calm.{Stretch}
 use Rattle.settling.proofs.E3-Invariant.{Inv, Fine, in-s}
 use Rattle.settling.proofs.G1-Sums.{failed}
 use Rattle.settling.proofs.G2-Counting.{agrees, split, Budget, pay-tick}
+use Rattle.settling.proofs.G3-Begins.{StillSteady, still-steady}
 use Rattle.settling.proofs.G4-Changes.{leaves-budget, delay-leaves, lose-leaves, change-leaves}
 
 -- a tick counts as divided if some steady head doesn't trust L
@@ -54,10 +54,10 @@ fine K x h cut short p q ip iq ne Sp Sq e =
     (omega arith, short p q (jp .low) (jp .high) (jq .low) (jq .high) ne Sp Sq e)
 
 -- what is left after an entry, and what it took
-pub record Paid (K : Stretch) (N : ℕ) (cost : ℕ) (x : System) : Type 0 where
-  pub left : ℕ
-  pub budget : Budget K left x
-  pub paid : cost + left ≤ N
+record Paid (K : Stretch) (N : ℕ) (cost : ℕ) (x : System) : Type 0 where
+  left : ℕ
+  budget : Budget K left x
+  paid : cost + left ≤ N
 
 free : (K : Stretch) (N : ℕ) (x : System) → Budget K N x → Paid K N 0 x
 free K N x b = record { left = N; budget = b; paid = omega arith }
@@ -72,40 +72,15 @@ pay-run K N (suc t) x room cut short b =
     let r : Paid K (a .0) (dividedTicksAmong (K .steady) (K .L) (moments t (tick x))) (ticks t (tick x)) = pay-run K (a .0) t (tick x) (rw (tick-tick x) (omega arith)) (cut .1) (short .1) (a .1) in
     record { left = r .left; budget = r .budget; paid = omega (arith, a .2, r .paid) }
 
--- at a moment of the stretch: steady heads are up, and every other up head has more starts than L
-pub record Holds (K : Stretch) (x : System) : Type 0 where
-  pub ups : (p : ℕ) → In (K .n) p → K .steady p ≡ true → station x p .up ≡ true
-  pub more : (p : ℕ) → In (K .n) p → K .steady p ≡ false → station x p .up ≡ true → counts x (K .L) < counts x p
-
-pub holds : (K : Stretch) (cs : List Command) (x : System) → x .n ≡ K .n → x .clock ≡ false → FromFresh cs x → AllUp (K .steady) (K .n) cs → MoreStarts (K .steady) (K .n) (K .L) cs → Holds K x
-holds K cs x e flash f up more =
-    record {
-      ups = λ p ip s. f .latest p (at p ip) ∙ up p (ip .low) (ip .high) s;
-      more = λ p ip s u. rw (f .counted flash (K .L) (at (K .L) (K .L-in)), f .counted flash p (at p ip)) (more p (ip .low) (ip .high) s (sym (f .latest p (at p ip)) ∙ u));
-    }
-  where
-    at : (p : ℕ) → In (K .n) p → In (x .n) p
-    at p ip = rw e ip
-
 -- an accepted start or crash is of an unsteady head, since steady heads are up before it and after it
-module _ (K : Stretch) (N : ℕ) (x : System) (b : Budget K N x) where
-  pay-change : (p : ℕ) → In (x .n) p → K .steady p ≡ false → (z : Station) → Reached (withStation p z x) → Holds K (withStation p z x) → Paid K N 0 (withStation p z x)
-  pay-change p ip ns z r h =
-      free K N (withStation p z x)
-      (leaves-budget K N x (withStation p z x)
-      (change-leaves K x p ip ns z r
-      (λ u.
-      let same : station (withStation p z x) p ≡ z = changed-same x (b .inv .reached .sound) p ip z in
-      let first : station (withStation p z x) (K .L) ≡ station x (K .L) = changed-other x (b .inv .reached .sound) p ip z (K .L) (K .L-in .low) (λ e. true≢false (sym (K .L-steady) ∙ ap (K .steady) e ∙ ns)) in
-      let more : counts (withStation p z x) (K .L) < counts (withStation p z x) p = h .more p (rw (← b .inv .same-n) ip) ns (ap (λ (y : Station). y .up) same ∙ u) in
-      omega (arith, ap (λ (y : Station). y .incarnation) same, ap (λ (y : Station). y .incarnation) first, b .inv .const (K .L) (K .L-in) (K .L-steady)))
-      (b .inv))
-      b)
+pay-change : (K : Stretch) (N : ℕ) (x : System) → Budget K N x → (p : ℕ) → In (x .n) p → K .steady p ≡ false → (z : Station) → Reached (withStation p z x) → StillSteady (K .steady) (K .n) (K .L) (withStation p z x)
+    → Paid K N 0 (withStation p z x)
+pay-change K N x b p ip ns z r h = free K N _ (leaves-budget K N x _ (change-leaves K x p ip ns z r h (b .inv)) b)
 
 -- what an accepted entry takes
 pay : (K : Stretch) (N : ℕ) (c : Command) (x : System) → x .ready ≡ true → Accepts c x → LosesNoneAmong (K .steady) c x
     → All (SentAmong (K .steady) (λ y. y ≢ 0)) (ticksOf c x) → All (SentAmong (K .steady) (λ y. y ≤ K .d)) (ticksOf c x)
-    → Budget K N x → Holds K (perform c x) → Paid K N (dividedTicksAmong (K .steady) (K .L) (ticksOf c x)) (perform c x)
+    → Budget K N x → StillSteady (K .steady) (K .n) (K .L) (perform c x) → Paid K N (dividedTicksAmong (K .steady) (K .L) (ticksOf c x)) (perform c x)
 unfolding perform dividedTicksAmong
 pay K N (SetUp clock n period) x r a none cut short b h = absurd (true≢false (sym r ∙ a .0))
 pay K N (Start p) x r (r′, ip, down, few) none cut short b h =
@@ -130,7 +105,7 @@ divided-append S L (x ∷ xs) ys = omega (arith, divided-append S L xs ys)
 -- an entry, accepted or refused
 pay-entry : (K : Stretch) (N : ℕ) (e : List ℕ) (x : System) → x .ready ≡ true → (accepted x e ≡ true → LosesNoneAmong (K .steady) (decode e) x)
     → All (SentAmong (K .steady) (λ y. y ≢ 0)) (cond (accepted x e) (ticksOf (decode e) x) []) → All (SentAmong (K .steady) (λ y. y ≤ K .d)) (cond (accepted x e) (ticksOf (decode e) x) [])
-    → Budget K N x → Holds K (after x e) → Paid K N (dividedTicksAmong (K .steady) (K .L) (cond (accepted x e) (ticksOf (decode e) x) [])) (after x e)
+    → Budget K N x → StillSteady (K .steady) (K .n) (K .L) (after x e) → Paid K N (dividedTicksAmong (K .steady) (K .L) (cond (accepted x e) (ticksOf (decode e) x) [])) (after x e)
 unfolding dividedTicksAmong
 pay-entry K N e x r none cut short b h = go (accepted x e) refl cut short
   where
@@ -141,19 +116,19 @@ pay-entry K N e x r none cut short b h = go (accepted x e) refl cut short
     go false t cut short = rw (after-no x e t) (free K N x b)
 
 -- the entries of a stretch
-pub walk : (K : Stretch) (N : ℕ) (cs : List Command) (es : List (List ℕ)) (x : System) → Came cs x → Throughout (AllUp (K .steady) (K .n)) cs es x → Throughout (MoreStarts (K .steady) (K .n) (K .L)) cs es x
+pub walk : (K : Stretch) (N : ℕ) (cs : List Command) (es : List (List ℕ)) (x : System) → GivenBy cs x → Throughout (AllUp (K .steady) (K .n)) cs es x → Throughout (OthersMoreNow (K .steady) (K .n) (K .L)) cs es x
     → Each (LosesNoneAmong (K .steady)) es x → All (SentAmong (K .steady) (λ y. y ≢ 0)) (befores es x) → All (SentAmong (K .steady) (λ y. y ≤ K .d)) (befores es x)
     → Budget K N x → dividedTicksAmong (K .steady) (K .L) (befores es x) ≤ N
 unfolding befores dividedTicksAmong
-walk K N cs [] x came up more none cut short b = zero-le
-walk K N cs (e ∷ es) x came up more none cut short b =
+walk K N cs [] x is-given up more none cut short b = zero-le
+walk K N cs (e ∷ es) x is-given up more none cut short b =
     let now : List System = cond (accepted x e) (ticksOf (decode e) x) [] in
     let rest : List System = befores es (after x e) in
-    let came′ : Came (grown cs x e) (after x e) = came-after cs x came e in
-    let ready : x .ready ≡ true = came-told cs x came .is-ready (K .L) (in-s K x (b .inv) (K .L) (K .L-in)) in
-    let h : Holds K (after x e) =
-    holds K (grown cs x e) (after x e) (n-kept x e ready ∙ b .inv .same-n) (after-flash x e (ready, b .inv .reached .flash) .1) (came-told (grown cs x e) (after x e) came′) (at-once _ (grown cs x e) es (after x e) (up .1)) (at-once _ (grown cs x e) es (after x e) (more .1)) in
+    let is-given′ : GivenBy (withEntry cs x e) (after x e) = given-after cs x is-given e in
+    let ready : x .ready ≡ true = given-told cs x is-given .is-ready (K .L) (in-s K x (b .inv) (K .L) (K .L-in)) in
+    let h : StillSteady (K .steady) (K .n) (K .L) (after x e) =
+    still-steady (K .steady) (K .n) (K .L) (withEntry cs x e) (after x e) (K .L-in) (n-kept x e ready ∙ b .inv .same-n) (after-flash x e (ready, b .inv .reached .flash) .1) (given-told (withEntry cs x e) (after x e) is-given′) (at-once _ (withEntry cs x e) es (after x e) (up .1)) (at-once _ (withEntry cs x e) es (after x e) (more .1)) in
     let r : Paid K N (dividedTicksAmong (K .steady) (K .L) now) (after x e) = pay-entry K N e x ready (none .0) (all-left _ now rest cut) (all-left _ now rest short) b h in
     let m : dividedTicksAmong (K .steady) (K .L) rest ≤ r .left =
-    walk K (r .left) (grown cs x e) es (after x e) came′ (up .1) (more .1) (none .1) (all-right _ now rest cut) (all-right _ now rest short) (r .budget) in
+    walk K (r .left) (withEntry cs x e) es (after x e) is-given′ (up .1) (more .1) (none .1) (all-right _ now rest cut) (all-right _ now rest short) (r .budget) in
     rw divided-append (omega (arith, r .paid))

@@ -15,7 +15,7 @@ use Rattle.station.specs.declared.Station.{Station}
 use Rattle.election.specs.Commands.{Command, SetUp, Start, Crash, Link, Run, Lose, Report, Rank, decode}
 use Rattle.election.specs.Schedule.{schedule}
 use Rattle.settling.specs.Settling.{moments, ticksOf, befores, answered, given}
-use Rattle.settling.specs.Steady.{AllUp, MoreStarts, dividedAmong, dividedTicksAmong, QuietAmong, headsAmong, boundAmong, SteadySettling}
+use Rattle.settling.specs.Steady.{withEntry, AllUp, OthersMoreNow, dividedAmong, dividedTicksAmong, SteadyStretch, headsAmong, boundAmong, SteadySettling, steadyHeads, AllSteadySettling}
 use Rattle.election.specs.History.{accepted, after, commands}
 use Rattle.election.specs.System.{station, fresh}
 use Rattle.election.specs.Tick.{sending, tick}
@@ -28,18 +28,17 @@ use Rattle.election.proofs.Places.{In, tick-n, tick-clock}
 use Rattle.election.proofs.Ranks.{rank-is-latest}
 use Rattle.settling.proofs.F-Potential.{tri, tri-double}
 use Rattle.settling.proofs.A2-Reached.{Reached}
-use Rattle.settling.proofs.A3-Reaching.{Arrived}
-use Rattle.settling.proofs.A4-Moments.{Came, came-arrived, came-told, at-once, after-arrived, Flash, after-flash}
-use Rattle.settling.proofs.G3-Begins.{Led, from-here, begin-inv}
+use Rattle.settling.proofs.A4-Moments.{GivenBy, given-arrived, given-told, given-after, steady-ones, at-once, Flash, after-flash}
+use Rattle.settling.proofs.G3-Begins.{still-steady, FirstHere, from-here, begin-inv}
 use Rattle.settling.proofs.G5-Walk.{walk}
 
 -- After every prefix of a stretch Command answers what the rules give.
-pub answers : (k : ℕ) (es : List (List ℕ)) (s : System) → Arrived s → answered (take k es) s ≡ given (take k es) s
+pub answers : (k : ℕ) (cs : List Command) (es : List (List ℕ)) (s : System) → GivenBy cs s → answered (take k es) s ≡ given (take k es) s
 unfolding answered given
-answers zero es s h = refl
-answers (suc k) [] s h = refl
-answers (suc k) (e ∷ es) s h =
-    ap (answered (take k es)) (rules-system s e (h .is-sound)) ∙ answers k es (after s e) (after-arrived s e h)
+answers zero cs es s h = refl
+answers (suc k) cs [] s h = refl
+answers (suc k) cs (e ∷ es) s h =
+    ap (answered (take k es)) (rules-system s e (given-arrived cs s h .is-sound)) ∙ answers k (withEntry cs s e) es (after s e) (given-after cs s h e)
 
 -- At the end of a tick in which every head of S trusts L, whoever of them sent in it is L.
 abbrev Silent : (ℕ → Bool) → ℕ → System → Type 0
@@ -69,13 +68,13 @@ silent-command S L (Lose p q) x h = tt
 silent-command S L Report x h = tt
 silent-command S L (Rank p r) x h = tt
 
-silent : (S : ℕ → Bool) (L : ℕ) (es : List (List ℕ)) (x : System) → Arrived x → Flash x → All (Silent S L) (befores es x)
+silent : (S : ℕ → Bool) (L : ℕ) (cs : List Command) (es : List (List ℕ)) (x : System) → GivenBy cs x → Flash x → All (Silent S L) (befores es x)
 unfolding befores
-silent S L [] x h f = tt
-silent S L (e ∷ es) x h f =
+silent S L cs [] x h f = tt
+silent S L cs (e ∷ es) x h f =
     all-append (Silent S L) (cond (accepted x e) (ticksOf (decode e) x) []) (befores es (after x e))
-    (cond-elim (All (Silent S L)) (accepted x e) (λ t. silent-command S L (decode e) x (h .reached (f .0) (f .1))) (λ t. tt))
-    (silent S L es (after x e) (after-arrived x e h) (after-flash x e f))
+    (cond-elim (All (Silent S L)) (accepted x e) (λ t. silent-command S L (decode e) x (given-arrived cs x h .reached (f .0) (f .1))) (λ t. tt))
+    (silent S L (withEntry cs x e) es (after x e) (given-after cs x h e) (after-flash x e f))
 
 -- (k - 1)(d - 1)(d - 2) / 2
 half-of : (j m : ℕ) → j * (m + 1) * m / 2 ≡ j * tri m
@@ -96,33 +95,34 @@ half k (suc (suc m)) =
     rw (a, b) (half-of (k - 1) m)
 
 -- From a reached system.
-few : (S : ℕ → Bool) (d L : ℕ) (cs : List Command) (es : List (List ℕ)) (s : System) (h : Reached s) → Led S s L → Came cs s → QuietAmong S d L cs es s → dividedTicksAmong S L (befores es s) ≤ boundAmong S d s
+few : (S : ℕ → Bool) (d L : ℕ) (cs : List Command) (es : List (List ℕ)) (s : System) (h : Reached s) → FirstHere S s L → GivenBy cs s → SteadyStretch S d L cs es s → dividedTicksAmong S L (befores es s) ≤ boundAmong S d s
 unfolding headsAmong
-few S d L cs es s h led came q =
+few S d L cs es s h first is-given q =
     rw half
-    (walk (from-here s h S d L led) _ cs es s came (q .steady) (q .others) (q .none-lost) (q .none-cut) (q .within)
-    (record { inv = begin-inv s h S d L led (q .arriving); early = λ e. omega arith; late = λ e. omega (arith, h .sound .period-low) }))
+    (walk (from-here s h S d L first) _ cs es s is-given (q .steady) (q .others) (q .messages .none-lost) (q .messages .none-cut) (q .messages .within)
+    (record { inv = begin-inv s h S d L first (q .messages .arriving); early = λ e. omega arith; late = λ e. omega (arith, h .sound .period-low) }))
 
 pub steady-settling : SteadySettling
 steady-settling bytes stretch S d L ok flash first quiet =
     let f : Followed (length bytes) fresh bytes (schedule bytes) = accepted-schedule bytes ok in
     let s : System = schedule bytes .system in
     let cs : List Command = commands bytes in
-    let came : Came cs s = record { allowed = f .allowed; system = f .system } in
-    let a : Arrived s = came-arrived cs s came in
-    let g : FromFresh cs s = came-told cs s came in
+    let is-given : GivenBy cs s = record { allowed = f .allowed; system = f .system } in
+    let g : FromFresh cs s = given-told cs s is-given in
     let i : In (s .n) L = record { low = first .low; high = first .high } in
     let ready : s .ready ≡ true = g .is-ready L i in
-    let h : Reached s = a .reached ready flash in
-    let up : AllUp S (s .n) cs = at-once (AllUp S (s .n)) cs stretch s (quiet .steady) in
-    let more : MoreStarts S (s .n) L cs = at-once (MoreStarts S (s .n) L) cs stretch s (quiet .others) in
-    let led : Led S s L =
+    let h : Reached s = given-arrived cs s is-given .reached ready flash in
+    let here : FirstHere S s L =
     record {
       inside = i;
-      is-one = first .is-one;
-      ups = λ p ip c. g .latest p ip ∙ up p (ip .low) (ip .high) c;
+      in-set = first .in-set;
       least = λ p ip c ne.
           rw (g .counted flash L i, g .counted flash p ip, rank-is-latest bytes ok L (i .low) (i .high), rank-is-latest bytes ok p (ip .low) (ip .high)) (first .least p (ip .low) (ip .high) c ne);
-      more = λ p ip u ns. rw (g .counted flash L i, g .counted flash p ip) (more p (ip .low) (ip .high) ns (sym (g .latest p ip) ∙ u));
+      still = still-steady S (s .n) L cs s i refl flash g (at-once (AllUp S (s .n)) cs stretch s (quiet .steady)) (at-once (OthersMoreNow S (s .n) L) cs stretch s (quiet .others));
     } in
-    (record { few = few S d L cs stretch s h led came quiet; silent = silent S L stretch s a (ready, flash); answers = λ k. answers k stretch s a }, f .system)
+    (record { few = few S d L cs stretch s h here is-given quiet; silent = silent S L cs stretch s is-given (ready, flash); answers = λ k. answers k cs stretch s is-given }, f .system)
+
+pub all-steady-settling : AllSteadySettling
+all-steady-settling bytes stretch d L ok flash first others messages =
+    steady-settling bytes stretch (steadyHeads bytes stretch) d L ok flash first
+    (record { steady = steady-ones (steadyHeads bytes stretch) (commands bytes) stretch (schedule bytes .system) .1 (λ p low high s. s); others = others; messages = messages }) .0

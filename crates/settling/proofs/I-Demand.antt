@@ -1,6 +1,6 @@
 -- I. Demand 3: nobody starts or crashes in the stretch, so the heads that are up at its beginning are steady.
 use mathlib.Core.Path.{_≡_, refl, sym, ap, _∙_}
-use mathlib.Core.Logic.{_≢_}
+use mathlib.Core.Logic.{_≢_, _↔_}
 use mathlib.Core.Bool.{Bool, true, false, cond, not, _&&_, true≢false}
 use mathlib.Core.List.{List, [], _∷_, _++_}
 use Prim.Native.Nat.{ℕ, zero, suc, _+_, _-_, _≤_, _<_}
@@ -27,11 +27,11 @@ use Rattle.election.proofs.Followed.{accepted-schedule}
 use Rattle.election.proofs.Places.{In, seat-in, seat-of, tick-n}
 use Rattle.election.proofs.Steps.{sending-of, tick-up}
 use Rattle.settling.specs.Settling.{First, moments, ticksOf, befores, dividedTicks, Permitted, LosesNone, Each, Sent, longestWait, longestTimeout, upHeads, bound, Settling}
-use Rattle.settling.specs.Steady.{grown, Throughout, AllUp, MoreStarts, FirstAmong, dividedTicksAmong, LosesNoneAmong, SentAmong, longestWaitAmong, longestTimeoutAmong, headsAmong, boundAmong, DemandFollows, SameWords, UpHeadsWords}
-use Rattle.settling.proofs.A4-Moments.{Came, came-arrived, came-told, came-after, throughout-map, Flash, after-flash}
+use Rattle.settling.specs.Steady.{withEntry, Throughout, AllUp, OthersMoreNow, FirstAmong, dividedTicksAmong, LosesNoneAmong, SentAmong, longestWaitAmong, longestTimeoutAmong, headsAmong, boundAmong, upAfter, DemandOf, DemandFollows, SameWords, UpHeadsWords}
+use Rattle.settling.proofs.A4-Moments.{GivenBy, given-arrived, given-told, given-after, throughout-map, Flash, after-flash}
 use Rattle.settling.proofs.H-Steady.{steady-settling}
 
--- the words
+-- where S says who is up, the words are the same
 pub up-heads-words : UpHeadsWords
 unfolding allTrust longestWaitAmong longestWait longestTimeoutAmong longestTimeout headsAmong upHeads
 up-heads-words S L s same =
@@ -70,14 +70,14 @@ up-permitted u p Report ok = refl
 up-permitted u p (Rank q r) ok = absurd ok
 
 -- S says who is up, by the accepted commands and in the system
-abbrev Told : (ℕ → Bool) → List Command → Type 0
-Told S cs = (p : ℕ) → S p ≡ isUp false p cs
+abbrev UpByCommands : (ℕ → Bool) → List Command → Type 0
+UpByCommands S cs = (p : ℕ) → S p ≡ isUp false p cs
 
-abbrev Shows : (ℕ → Bool) → System → Type 0
-Shows S x = (p : ℕ) → 1 ≤ p → p ≤ x .n → S p ≡ station x p .up
+abbrev UpInSystem : (ℕ → Bool) → System → Type 0
+UpInSystem S x = (p : ℕ) → 1 ≤ p → p ≤ x .n → S p ≡ station x p .up
 
 -- so it stays for the whole stretch
-told-after : (S : ℕ → Bool) (cs : List Command) (x : System) (e : List ℕ) → (accepted x e ≡ true → Permitted (decode e)) → Told S cs → Told S (grown cs x e)
+told-after : (S : ℕ → Bool) (cs : List Command) (x : System) (e : List ℕ) → (accepted x e ≡ true → Permitted (decode e)) → UpByCommands S cs → UpByCommands S (withEntry cs x e)
 unfolding isUp
 told-after S cs x e ok h p = h p ∙ sym (up-append false p cs _ ∙ go (accepted x e) refl)
   where
@@ -85,28 +85,28 @@ told-after S cs x e ok h p = h p ∙ sym (up-append false p cs _ ∙ go (accepte
     go true t = up-permitted (isUp false p cs) p (decode e) (ok t)
     go false t = refl
 
-told-throughout : (S : ℕ → Bool) (cs : List Command) (es : List (List ℕ)) (x : System) → Each (λ c y. Permitted c) es x → Told S cs → Throughout (Told S) cs es x
+told-throughout : (S : ℕ → Bool) (cs : List Command) (es : List (List ℕ)) (x : System) → Each (λ c y. Permitted c) es x → UpByCommands S cs → Throughout (UpByCommands S) cs es x
 told-throughout S cs [] x ok h = h
-told-throughout S cs (e ∷ es) x ok h = (h, told-throughout S (grown cs x e) es (after x e) (ok .1) (told-after S cs x e (ok .0) h))
+told-throughout S cs (e ∷ es) x ok h = (h, told-throughout S (withEntry cs x e) es (after x e) (ok .1) (told-after S cs x e (ok .0) h))
 
--- before a tick of the stretch, and at its end
-abbrev AtTick : (ℕ → Bool) → System → Type 0
-AtTick S x = Shows S x × Shows S (tick x)
+-- S says who is up before a tick, and at its end
+abbrev UpAround : (ℕ → Bool) → System → Type 0
+UpAround S x = UpInSystem S x × UpInSystem S (tick x)
 
 module _ (S : ℕ → Bool) where
-  tick-shows : (x : System) → x .n ≤ 8 → Shows S x → Shows S (tick x)
+  tick-shows : (x : System) → x .n ≤ 8 → UpInSystem S x → UpInSystem S (tick x)
   tick-shows x small h p low high =
       let inside : p ≤ x .n = omega (arith, tick-n x) in
       h p low inside ∙ sym (tick-up x small p (record { low = low; high = inside }))
 
-  run-shows : (t : ℕ) (x : System) → x .n ≤ 8 → Shows S x → All (AtTick S) (moments t x)
+  run-shows : (t : ℕ) (x : System) → x .n ≤ 8 → UpInSystem S x → All (UpAround S) (moments t x)
   unfolding moments
   run-shows zero x small h = tt
   run-shows (suc t) x small h =
-      let next : Shows S (tick x) = tick-shows x small h in
+      let next : UpInSystem S (tick x) = tick-shows x small h in
       ((h, next), run-shows t (tick x) (rw (tick-n x) small) next)
 
-  command-shows : (c : Command) (x : System) → x .n ≤ 8 → Shows S x → All (AtTick S) (ticksOf c x)
+  command-shows : (c : Command) (x : System) → x .n ≤ 8 → UpInSystem S x → All (UpAround S) (ticksOf c x)
   command-shows (SetUp clock n period) x small h = tt
   command-shows (Start p) x small h = tt
   command-shows (Crash p) x small h = tt
@@ -117,12 +117,12 @@ module _ (S : ℕ → Bool) where
   command-shows (Rank p r) x small h = tt
 
   -- at a moment of the stretch
-  module _ (cs : List Command) (x : System) (came : Came cs x) (f : Flash x) (told : Told S cs) where
-    shows : Shows S x
-    shows p low high = told p ∙ sym (came-told cs x came .latest p (record { low = low; high = high }))
+  module _ (cs : List Command) (x : System) (is-given : GivenBy cs x) (told : UpByCommands S cs) where
+    shows : UpInSystem S x
+    shows p low high = told p ∙ sym (given-told cs x is-given .latest p (record { low = low; high = high }))
 
-    entry-shows : (e : List ℕ) → All (AtTick S) (cond (accepted x e) (ticksOf (decode e) x) [])
-    entry-shows e = cond-elim (All (AtTick S)) (accepted x e) (λ t. command-shows (decode e) x (came-arrived cs x came .reached (f .0) (f .1) .sound .n-high) shows) (λ t. tt)
+    entry-shows : Flash x → (e : List ℕ) → All (UpAround S) (cond (accepted x e) (ticksOf (decode e) x) [])
+    entry-shows f e = cond-elim (All (UpAround S)) (accepted x e) (λ t. command-shows (decode e) x (given-arrived cs x is-given .reached (f .0) (f .1) .sound .n-high) shows) (λ t. tt)
 
     -- what is asked of a loss
     loses : (c : Command) → Accepts c x → LosesNone c x → LosesNoneAmong S c x
@@ -136,66 +136,77 @@ module _ (S : ℕ → Bool) where
     loses (Rank p r) a none = tt
 
   -- along the stretch
-  all-show : (cs : List Command) (es : List (List ℕ)) (x : System) → Came cs x → Flash x → Throughout (Told S) cs es x → All (AtTick S) (befores es x)
+  all-show : (cs : List Command) (es : List (List ℕ)) (x : System) → GivenBy cs x → Flash x → Throughout (UpByCommands S) cs es x → All (UpAround S) (befores es x)
   unfolding befores
-  all-show cs [] x came f told = tt
-  all-show cs (e ∷ es) x came f told =
-      all-append (AtTick S) (cond (accepted x e) (ticksOf (decode e) x) []) (befores es (after x e)) (entry-shows cs x came f (told .0) e)
-      (all-show (grown cs x e) es (after x e) (came-after cs x came e) (after-flash x e f) (told .1))
+  all-show cs [] x is-given f told = tt
+  all-show cs (e ∷ es) x is-given f told =
+      all-append (UpAround S) (cond (accepted x e) (ticksOf (decode e) x) []) (befores es (after x e)) (entry-shows cs x is-given (told .0) f e)
+      (all-show (withEntry cs x e) es (after x e) (given-after cs x is-given e) (after-flash x e f) (told .1))
 
-  all-lose : (cs : List Command) (es : List (List ℕ)) (x : System) → Came cs x → Flash x → Throughout (Told S) cs es x → Each LosesNone es x → Each (LosesNoneAmong S) es x
-  all-lose cs [] x came f told none = tt
-  all-lose cs (e ∷ es) x came f told none = (
-    λ t. loses cs x came f (told .0) (decode e) (accepts (decode e) x (ruling-tests x e (eqb-true _ _ t))) (none .0 t),
-    all-lose (grown cs x e) es (after x e) (came-after cs x came e) (after-flash x e f) (told .1) (none .1),
+  all-lose : (cs : List Command) (es : List (List ℕ)) (x : System) → GivenBy cs x → Throughout (UpByCommands S) cs es x → Each LosesNone es x → Each (LosesNoneAmong S) es x
+  all-lose cs [] x is-given told none = tt
+  all-lose cs (e ∷ es) x is-given told none = (
+    λ t. loses cs x is-given (told .0) (decode e) (accepts (decode e) x (ruling-tests x e (eqb-true _ _ t))) (none .0 t),
+    all-lose (withEntry cs x e) es (after x e) (given-after cs x is-given e) (told .1) (none .1),
   )
 
   -- what is asked of the messages sent
-  sent-among : (P : ℕ → Type 0) (x : System) → AtTick S x → Sent P x → SentAmong S P x
+  sent-among : (P : ℕ → Type 0) (x : System) → UpAround S x → Sent P x → SentAmong S P x
   sent-among P x h sent p q lp hp lq hq ne sp sq t = sent p q lp hp lq hq ne t (sym (h .0 q lq hq) ∙ sq)
 
   -- the divided ticks
-  same-divided : (L : ℕ) (xs : List System) → All (AtTick S) xs → dividedTicks L xs ≡ dividedTicksAmong S L xs
+  same-divided : (L : ℕ) (xs : List System) → All (UpAround S) xs → dividedTicks L xs ≡ dividedTicksAmong S L xs
   unfolding dividedTicks dividedTicksAmong
   same-divided L [] h = refl
   same-divided L (x ∷ xs) h = rw (up-heads-words S L (tick x) (h .0 .1) .of-divided, same-divided L xs (h .1))
 
 -- the first of the up heads is the first of the set of them
-pub first-up : (n : ℕ) (cs : List Command) (L : ℕ) → First n cs L → FirstAmong (λ p. isUp false p cs) n cs L
-first-up n cs L f = record { low = f .low; high = f .high; is-one = f .is-up; least = f .least }
+pub first-up : (n : ℕ) (cs : List Command) (L : ℕ) → First n cs L ↔ FirstAmong (λ p. isUp false p cs) n cs L
+first-up n cs L = (
+  λ f. record { low = f .low; high = f .high; in-set = f .is-up; least = f .least },
+  λ f. record { low = f .low; high = f .high; is-up = f .in-set; least = f .least },
+)
 
 pub demand-follows : DemandFollows
-demand-follows steady bytes stretch d L ok flash first quiet =
+demand-follows bytes stretch d L ok flash first quiet =
     let s : System = schedule bytes .system in
     let cs : List Command = commands bytes in
-    let S : ℕ → Bool = λ p. isUp false p cs in
+    let S : ℕ → Bool = upAfter bytes in
     let followed = accepted-schedule bytes ok in
-    let came : Came cs s = record { allowed = followed .allowed; system = followed .system } in
-    let f : Flash s = (came-told cs s came .is-ready L (record { low = first .low; high = first .high }), flash) in
-    let told : Throughout (Told S) cs stretch s = told-throughout S cs stretch s (quiet .permitted) (λ p. refl) in
-    let all : All (AtTick S) (befores stretch s) = all-show S cs stretch s came f told in
-    let (settles, is-reached) =
-    steady bytes stretch S d L ok flash (first-up (s .n) cs L first)
-    (record {
-      steady = throughout-map (Told S) (AllUp S (s .n)) (λ ds h p low high u. sym (h p) ∙ u) cs stretch s told;
-      others = throughout-map (Told S) (MoreStarts S (s .n) L) (λ ds h p low high ns u. absurd (true≢false (sym u ∙ sym (h p) ∙ ns))) cs stretch s told;
-      none-lost = all-lose S cs stretch s came f told (quiet .none-lost);
-      none-cut = all-both (AtTick S) (Sent (λ x. x ≢ 0)) _ (λ x. sent-among S (λ y. y ≢ 0) x) (befores stretch s) all (quiet .none-cut);
-      arriving = λ p q lp hp lq hq ne u. quiet .arriving p q lp hp lq hq ne (sym (shows S cs s came f (λ r. refl) q lq hq) ∙ u);
-      within = all-both (AtTick S) (Sent (λ x. x ≤ d)) _ (λ x. sent-among S (λ y. y ≤ d) x) (befores stretch s) all (quiet .within);
-    }) in
-    let words : SameWords S L s = up-heads-words S L s (shows S cs s came f (λ r. refl)) in
-    let same-bound : boundAmong S d s ≡ bound d s = rw (words .of-wait, words .of-timeout, words .of-heads) in (
-      record {
-        few = rw (same-divided S L (befores stretch s) all, ← same-bound) (settles .few);
-        silent =
-            all-both (AtTick S) _ _
-            (λ x h quiet e p low high t. quiet (up-heads-words S L (tick x) (h .1) .of-divided ∙ e) p low high (h .0 p low high ∙ sending-of x p t .0) t)
-            (befores stretch s) all (settles .silent);
-        answers = settles .answers;
-      },
-      is-reached,
-    )
+    let is-given : GivenBy cs s = record { allowed = followed .allowed; system = followed .system } in
+    let f : Flash s = (given-told cs s is-given .is-ready L (record { low = first .low; high = first .high }), flash) in
+    let told : Throughout (UpByCommands S) cs stretch s = told-throughout S cs stretch s (quiet .permitted) (λ p. refl) in
+    let at-first : UpInSystem S s = shows S cs s is-given (λ p. refl) in
+    let all : All (UpAround S) (befores stretch s) = all-show S cs stretch s is-given f told in
+    let words : SameWords S L s = up-heads-words S L s at-first in
+    let same-bound : boundAmong S d s ≡ bound d s = rw (words .of-wait, words .of-timeout, words .of-heads) in
+    record {
+      first = first-up (s .n) cs L .0 first;
+      steady =
+          record {
+            steady = throughout-map (UpByCommands S) (AllUp S (s .n)) (λ ds h p low high u. sym (h p) ∙ u) cs stretch s told;
+            others = throughout-map (UpByCommands S) (OthersMoreNow S (s .n) L) (λ ds h p low high ns u. absurd (true≢false (sym u ∙ sym (h p) ∙ ns))) cs stretch s told;
+            messages =
+                record {
+                  none-lost = all-lose S cs stretch s is-given told (quiet .none-lost);
+                  none-cut = all-both (UpAround S) (Sent (λ x. x ≢ 0)) _ (λ x. sent-among S (λ y. y ≢ 0) x) (befores stretch s) all (quiet .none-cut);
+                  arriving = λ p q lp hp lq hq ne u. quiet .arriving p q lp hp lq hq ne (sym (at-first q lq hq) ∙ u);
+                  within = all-both (UpAround S) (Sent (λ x. x ≤ d)) _ (λ x. sent-among S (λ y. y ≤ d) x) (befores stretch s) all (quiet .within);
+                };
+          };
+      settles = λ settles.
+          record {
+            few = rw (same-divided S L (befores stretch s) all, ← same-bound) (settles .few);
+            silent =
+                all-both (UpAround S) _ _
+                (λ x h quiet e p low high t. quiet (up-heads-words S L (tick x) (h .1) .of-divided ∙ e) p low high (h .0 p low high ∙ sending-of x p t .0) t)
+                (befores stretch s) all (settles .silent);
+            answers = settles .answers;
+          };
+    }
 
 pub settling : Settling
-settling = demand-follows steady-settling
+settling bytes stretch d L ok flash first quiet =
+    let h : DemandOf bytes stretch d L = demand-follows bytes stretch d L ok flash first quiet in
+    let (settles, is-reached) = steady-settling bytes stretch (upAfter bytes) d L ok flash (h .first) (h .steady) in
+    (h .settles settles, is-reached)

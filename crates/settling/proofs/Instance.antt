@@ -22,11 +22,13 @@ use Rattle.election.proofs.Tables.{schedule-ruled}
 use Rattle.settling.specs.Instance.{bytes, stretch, d, L, begin, Meets, Instance, slowStretch, SlowLinks, beforeCrash, withCrash, CrashOfL, withLosses, LostToUp, withCut, CutToUp, withDelay, SentLate, beforeLate, afterLate, LateUnderWay, beforeLowest, afterLowest, LowestNumber, beforeRanked, afterRanked, Preferred, RankLeftOut, FlashTables, beforeClock, afterClock, ClockHeads}
 use Rattle.election.specs.declared.Message.{Message}
 use Rattle.election.specs.declared.System.{System}
-use Rattle.settling.proofs.Tested.{every, implies, pairs, sentTest, arrivingTest, eachTest, permittedTest, losesNoneTest, firstTest, Found, found, Says, says, quiet-of}
+use Rattle.settling.proofs.Tests.{every, implies, pairs, eachTest}
+use Rattle.settling.proofs.TestedAmong.{firstAmongTest, arrivingToTest, losesNoneAmongTest}
+use Rattle.settling.proofs.Tested.{sentTest, permittedTest, Found, found, Says, says, quiet-of}
 
 -- every definition that is computed with: what unfolds this name unfolds them
 computing : Unit {0}
-unfolding rules ruled maxTo allTrust after history starts isUp rankOf moments befores dividedTicks longestWait longestTimeout upHeads given every implies pairs sentTest arrivingTest eachTest permittedTest losesNoneTest firstTest found
+unfolding rules ruled maxTo allTrust after history starts isUp rankOf moments befores dividedTicks longestWait longestTimeout upHeads given every implies pairs sentTest arrivingToTest eachTest permittedTest losesNoneAmongTest firstAmongTest found
 computing = tt
 
 -- what is found: the conditions, the ticks, how many are divided, the bound

@@ -1,5 +1,5 @@
--- Whenever a head is up, or is in the set, there is a leader, and only one, by the candidate order with starts for known counts. With equal ranks that of
--- demand 3 is document 01's.
+-- Every set of heads that isn't empty has a first, and only one, by the candidate order with starts for known counts; so the up heads have a leader. With
+-- equal ranks that is document 01's.
 use mathlib.Core.Path.{_≡_, refl, sym, ap, _∙_}
 use mathlib.Core.Logic.{_⊎_, _≢_, _↔_}
 use mathlib.Core.Logic._⊎_.{inl, inr}
@@ -28,7 +28,7 @@ module _ (S : ℕ → Bool) (cs : List Command) where
   module _ (n : ℕ) where
     stays : (L : ℕ) → FirstAmong S n cs L → (S (suc n) ≡ true → Ahead L (suc n)) → FirstAmong S (suc n) cs L
     stays L f new =
-        record { low = f .low; high = omega (arith, f .high); is-one = f .is-one; least = λ p low high u ne. go p low high u ne (ℕ-discrete p (suc n)) }
+        record { low = f .low; high = omega (arith, f .high); in-set = f .in-set; least = λ p low high u ne. go p low high u ne (ℕ-discrete p (suc n)) }
       where
         go : (p : ℕ) → 1 ≤ p → p ≤ suc n → S p ≡ true → p ≢ L → Dec (p ≡ suc n) → Ahead L p
         go p low high u ne (yes e) = rw e (new (rw e at u))
@@ -36,7 +36,7 @@ module _ (S : ℕ → Bool) (cs : List Command) where
 
     becomes : S (suc n) ≡ true → ((p : ℕ) → 1 ≤ p → p ≤ n → S p ≡ true → Ahead (suc n) p) → FirstAmong S (suc n) cs (suc n)
     becomes new ahead =
-        record { low = omega arith; high = omega arith; is-one = new; least = λ p low high u ne. ahead p low (omega arith) u }
+        record { low = omega arith; high = omega arith; in-set = new; least = λ p low high u ne. ahead p low (omega arith) u }
 
   first-or-none : (n : ℕ) → ((L : ℕ) × FirstAmong S n cs L) ⊎ NoneOf n
   first-or-none zero = inr (λ p low high u. omega arith)
@@ -73,17 +73,17 @@ one-first S n cs L K f g = go (ℕ-discrete L K)
     go : Dec (L ≡ K) → L ≡ K
     go (yes e) = e
     go (no ne) =
-        let a : Ahead S cs L K = f .least K (g .low) (g .high) (g .is-one) (λ e. ne (sym e)) in
-        let b : Ahead S cs K L = g .least L (f .low) (f .high) (f .is-one) ne in
+        let a : Ahead S cs L K = f .least K (g .low) (g .high) (g .in-set) (λ e. ne (sym e)) in
+        let b : Ahead S cs K L = g .least L (f .low) (f .high) (f .in-set) ne in
         absurd (true≢false (sym b ∙ strict-holds (starts L cs) (rankOf 0 L cs) L (starts K cs) (rankOf 0 K cs) K a))
 
 pub leader-exists : LeaderExists
 leader-exists n cs p low high u =
     let (L, f) = first-exists (λ q. isUp false q cs) n cs p low high u in
-    (L, record { low = f .low; high = f .high; is-up = f .is-one; least = f .least })
+    (L, first-up n cs L .1 f)
 
 pub one-leader : OneLeader
-one-leader n cs L K f g = one-first (λ q. isUp false q cs) n cs L K (first-up n cs L f) (first-up n cs K g)
+one-leader n cs L K f g = one-first (λ q. isUp false q cs) n cs L K (first-up n cs L .0 f) (first-up n cs K .0 g)
 
 -- equal ranks do not matter
 ahead-equal : (cs : List Command) (L p : ℕ) → rankOf 0 L cs ≡ rankOf 0 p cs → (ahead cs L p ≡ true) ↔ ((starts L cs < starts p cs) ⊎ ((starts L cs ≡ starts p cs) × (L < p)))

@@ -8,7 +8,7 @@
 --   E  so each follower is in one of three cases, and a tick takes it from case to case
 --   F  what a follower can still lose is a number that no tick raises, and that a tick in which it does not trust L lowers
 --   G  the ticks up to W + M + 3 d and a period, and after them the sum over the followers: the bound. An entry that is no run, also the start or crash
---      of a head that is not steady, leaves the steady heads and what is under way between them
+--      of a head that is not steady, leaves the steady heads and what is under way from L to them
 --   H  in a tick that ends undivided no steady head but L sends; Paper 7
 --   I  demand 3: nobody starts or crashes in its stretches, so the heads that are up are steady
 pub mod A0-Flash
@@ -36,3 +36,4 @@ pub mod Restarting
 pub mod SomeCode
 pub mod Tested
 pub mod TestedAmong
+pub mod Tests

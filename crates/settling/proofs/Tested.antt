@@ -1,59 +1,25 @@
 -- The conditions of demand 3 as tests, so that they can be computed for a given schedule and stretch.
-use mathlib.Core.Path.{_≡_, refl, sym, ap, _∙_}
+use mathlib.Core.Path.{_≡_, sym, ap, _∙_}
 use mathlib.Core.Logic.{_≢_}
-use mathlib.Core.List.{List, [], _∷_}
-use mathlib.Core.Bool.{Bool, true, false, not, _&&_, _||_, true≢false}
-use Prim.Native.Nat.{ℕ, _+_, _-_, _<_, _≤_}
+use mathlib.Core.List.{List}
+use mathlib.Core.Bool.{Bool, true, false, not, true≢false}
+use Prim.Native.Nat.{ℕ, _-_, _<_, _≤_}
 use native.Mathlib.Omega.{arith}
 use lib.Dec.{leb, ltb, eqb}
 use lib.ListN.{length}
-use borrow.Author.Tests.{leb-true, eqb-false, eq-eqb, ne-eqb, not-true}
-use Rattle.lists.specs.Every.{All}
-use Rattle.lists.specs.Test.{allTo}
-use Rattle.lists.proofs.Bools.{both, four}
-use Rattle.lists.proofs.Test.{all-at}
-use Rattle.election.specs.Commands.{Command, SetUp, Start, Crash, Link, Run, Lose, Report, Rank, decode}
+use borrow.Author.Tests.{leb-true, eqb-false, not-true}
+use Rattle.election.specs.Commands.{Command, SetUp, Start, Crash, Link, Run, Lose, Report, Rank}
 use Rattle.election.specs.Schedule.{End, mostBytes, schedule}
-use Rattle.settling.specs.Settling.{ahead, First, befores, dividedTicks, Permitted, LosesNone, Each, Sent, Only, NoneLost, NoneCut, NoneSentLate, Arriving, Quiet, bound}
+use Rattle.settling.specs.Settling.{First, befores, dividedTicks, Permitted, LosesNone, Sent, Only, NoneLost, NoneCut, NoneSentLate, Arriving, Quiet, bound}
 use Rattle.election.specs.History.{accepted, after, commands, isUp}
-use Rattle.election.specs.System.{station, delay, underway}
+use Rattle.election.specs.System.{station, delay}
 use Rattle.election.specs.Tick.{sending}
 use Rattle.election.specs.declared.System.{System}
 use Rattle.election.proofs.Ruled.{byRules}
 use Rattle.election.proofs.Tables.{schedule-ruled}
-
--- a test of every entry of a list
-unfoldable pub every : {A : Type 0} → (A → Bool) → List A → Bool
-every t [] = true
-every t (x ∷ xs) = t x && every t xs
-
-pub every-all : {A : Type 0} (P : A → Type 0) (t : A → Bool) → ((x : A) → t x ≡ true → P x) → (xs : List A) → every t xs ≡ true → All P xs
-unfolding every
-every-all P t f [] e = tt
-every-all P t f (x ∷ xs) e = let (a, b) = both (t x) (every t xs) e in (f x a, every-all P t f xs b)
-
--- a test that is asked only where another holds
-unfoldable pub implies : Bool → Bool → Bool
-implies a b = not a || b
-
-pub implied : (a b : Bool) → implies a b ≡ true → a ≡ true → b ≡ true
-unfolding implies
-implied true b e h = e
-implied false b e h = absurd (true≢false (sym h))
-
--- a test of every two different stations
-unfoldable pub pairs : ℕ → (ℕ → ℕ → Bool) → Bool
-pairs n t = allTo n (λ i. allTo n (λ j. implies (not (eqb (i + 1) (j + 1))) (t (i + 1) (j + 1))))
-
-pub pairs-at : (n : ℕ) (t : ℕ → ℕ → Bool) → pairs n t ≡ true → (p q : ℕ) → 1 ≤ p → p ≤ n → 1 ≤ q → q ≤ n → p ≢ q → t p q ≡ true
-unfolding pairs
-pairs-at n t e p q lp hp lq hq ne =
-    let a : p - 1 + 1 ≡ p = omega arith in
-    let b : q - 1 + 1 ≡ q = omega arith in
-    let row : allTo n (λ j. implies (not (eqb (p - 1 + 1) (j + 1))) (t (p - 1 + 1) (j + 1))) ≡ true = all-at n (p - 1) _ e (omega arith) in
-    let one : implies (not (eqb (p - 1 + 1) (q - 1 + 1))) (t (p - 1 + 1) (q - 1 + 1)) ≡ true = all-at n (q - 1) _ row (omega arith) in
-    let same : implies (not (eqb p q)) (t p q) ≡ true = rw (a, b) at one in
-    implied (not (eqb p q)) (t p q) same (ap not (ne-eqb p q ne))
+use Rattle.settling.proofs.I-Demand.{first-up}
+use Rattle.settling.proofs.Tests.{every, every-all, implies, implied, pairs, pairs-at, eachTest, each-of}
+use Rattle.settling.proofs.TestedAmong.{firstAmongTest, firstAmong-of, arrivingToTest, arrivingTo-of, losesNoneAmongTest, losesNoneAmong-of}
 
 -- what is asked of a message that is sent in the tick after s to an up head
 unfoldable pub sentTest : (ℕ → Bool) → System → Bool
@@ -63,29 +29,6 @@ sent-of : (P : ℕ → Type 0) (t : ℕ → Bool) → ((x : ℕ) → t x ≡ tru
 unfolding sentTest
 sent-of P t f s e p q lp hp lq hq ne sends up =
     f (delay s p q) (implied (station s q .up) _ (implied (sending s p) _ (pairs-at (s .n) _ e p q lp hp lq hq ne) sends) up)
-
--- each message under way to an up head needs at most d more ticks
-unfoldable pub arrivingTest : ℕ → System → Bool
-arrivingTest d s = pairs (s .n) (λ p q. implies (station s q .up) (every (λ m. leb (m .due) (s .tick + d)) (underway s p q)))
-
-arriving-of : (d : ℕ) (s : System) → arrivingTest d s ≡ true → Arriving d s
-unfolding arrivingTest
-arriving-of d s e p q lp hp lq hq ne up =
-    every-all _ _ (λ m g. leb-true (m .due) (s .tick + d) g) (underway s p q) (implied (station s q .up) _ (pairs-at (s .n) _ e p q lp hp lq hq ne) up)
-
--- what is asked of each entry of a stretch; the system after the last one is not wanted, so it is not computed
-unfoldable pub eachTest : (Command → System → Bool) → List (List ℕ) → System → Bool
-eachTest t [] s = true
-eachTest t (e ∷ []) s = implies (accepted s e) (t (decode e) s)
-eachTest t (e ∷ f ∷ es) s = implies (accepted s e) (t (decode e) s) && eachTest t (f ∷ es) (after s e)
-
-pub each-of : (P : Command → System → Type 0) (t : Command → System → Bool) → ((c : Command) (s : System) → t c s ≡ true → P c s) → (es : List (List ℕ)) (s : System) → eachTest t es s ≡ true → Each P es s
-unfolding eachTest
-each-of P t h [] s g = tt
-each-of P t h (e ∷ []) s g = ((λ a. h (decode e) s (implied (accepted s e) _ g a)), tt)
-each-of P t h (e ∷ f ∷ es) s g =
-    let (x, y) = both (implies (accepted s e) (t (decode e) s)) (eachTest t (f ∷ es) (after s e)) g in
-    ((λ a. h (decode e) s (implied (accepted s e) _ x a)), each-of P t h (f ∷ es) (after s e) y)
 
 unfoldable pub permittedTest : Command → Bool
 permittedTest (SetUp clock n period) = false
@@ -108,49 +51,16 @@ permitted-of (Lose p q) e = tt
 permitted-of Report e = tt
 permitted-of (Rank p r) e = true≢false (sym e)
 
-unfoldable pub losesNoneTest : Command → System → Bool
-losesNoneTest (SetUp clock n period) s = true
-losesNoneTest (Start p) s = true
-losesNoneTest (Crash p) s = true
-losesNoneTest (Link p q d) s = true
-losesNoneTest (Run t) s = true
-losesNoneTest (Lose p q) s = implies (station s p .up) (implies (station s q .up) (every (λ m. false) (underway s p q)))
-losesNoneTest Report s = true
-losesNoneTest (Rank p r) s = true
-
-pub empty-of : {A : Type 0} (xs : List A) → every (λ x. false) xs ≡ true → xs ≡ []
-unfolding every
-empty-of [] e = refl
-empty-of (x ∷ xs) e = absurd (true≢false (sym e))
-
-losesNone-of : (c : Command) (s : System) → losesNoneTest c s ≡ true → LosesNone c s
-unfolding losesNoneTest
+-- a loss is asked as Paper 7 asks it of the up heads
+losesNone-of : (c : Command) (s : System) → losesNoneAmongTest (λ p. station s p .up) c s ≡ true → LosesNone c s
 losesNone-of (SetUp clock n period) s e = tt
 losesNone-of (Start p) s e = tt
 losesNone-of (Crash p) s e = tt
 losesNone-of (Link p q d) s e = tt
 losesNone-of (Run t) s e = tt
-losesNone-of (Lose p q) s e = λ up vp. empty-of (underway s p q) (implied (station s q .up) _ (implied (station s p .up) _ e up) vp)
+losesNone-of (Lose p q) s e = losesNoneAmong-of (λ r. station s r .up) (Lose p q) s e
 losesNone-of Report s e = tt
 losesNone-of (Rank p r) s e = tt
-
--- L is up, and before every other up head by starts, rank and number
-unfoldable pub firstTest : ℕ → List Command → ℕ → Bool
-firstTest n cs L = leb 1 L && leb L n && isUp false L cs && pairs n (λ p q. implies (eqb q L) (implies (isUp false p cs) (ahead cs L p)))
-
-first-of : (n : ℕ) (cs : List Command) (L : ℕ) → firstTest n cs L ≡ true → First n cs L
-unfolding firstTest
-first-of n cs L e =
-    let (a, b, up, all) = four (leb 1 L) (leb L n) (isUp false L cs) _ e in
-    let low : 1 ≤ L = leb-true 1 L a in
-    let high : L ≤ n = leb-true L n b in
-    record {
-      low = low;
-      high = high;
-      is-up = up;
-      least = λ p lp hp u ne.
-          implied (isUp false p cs) _ (implied (eqb L L) _ (pairs-at n _ all p L lp hp low high ne) (eq-eqb L L refl)) u;
-    }
 
 -- the test of each condition, and the numbers; all at once, so that the systems are computed once
 pub record Found : Type 0 where
@@ -173,11 +83,11 @@ found end cs stretch d L =
     record {
       refusal = end .refusal;
       flash = not (end .system .clock);
-      first = firstTest (end .system .n) cs L;
+      first = firstAmongTest (λ p. isUp false p cs) (end .system .n) cs L;
       permitted = eachTest (λ c x. permittedTest c) stretch (end .system);
-      none-lost = eachTest losesNoneTest stretch (end .system);
+      none-lost = eachTest (λ c s. losesNoneAmongTest (λ p. station s p .up) c s) stretch (end .system);
       none-cut = every (sentTest (λ x. not (eqb x 0))) systems;
-      arriving = arrivingTest d (end .system);
+      arriving = arrivingToTest (λ p. station (end .system) p .up) d (end .system);
       within = every (sentTest (λ x. leb x d)) systems;
       all-ticks = length systems;
       divided = dividedTicks L systems;
@@ -210,13 +120,13 @@ says bytes stretch d L y fits same =
     record {
       accepted = ap (λ (x : Found). x .refusal) e;
       flash = λ t. not-true (begin .clock) (ap (λ (x : Found). x .flash) e ∙ t);
-      first = λ t. first-of (begin .n) (commands bytes) L (ap (λ (x : Found). x .first) e ∙ t);
+      first = λ t. first-up (begin .n) (commands bytes) L .1 (firstAmong-of (λ p. isUp false p (commands bytes)) (begin .n) (commands bytes) L (ap (λ (x : Found). x .first) e ∙ t));
       permitted = λ t. each-of (λ c x. Permitted c) (λ c x. permittedTest c) (λ c x. permitted-of c) stretch begin (ap (λ (x : Found). x .permitted) e ∙ t);
-      none-lost = λ t. each-of LosesNone losesNoneTest losesNone-of stretch begin (ap (λ (x : Found). x .none-lost) e ∙ t);
+      none-lost = λ t. each-of LosesNone (λ c s. losesNoneAmongTest (λ p. station s p .up) c s) losesNone-of stretch begin (ap (λ (x : Found). x .none-lost) e ∙ t);
       none-cut = λ t.
           every-all (Sent (λ x. x ≢ 0)) (sentTest (λ x. not (eqb x 0)))
           (sent-of (λ x. x ≢ 0) (λ x. not (eqb x 0)) (λ x g. eqb-false x 0 (not-true (eqb x 0) g))) all (ap (λ (x : Found). x .none-cut) e ∙ t);
-      arriving = λ t. arriving-of d begin (ap (λ (x : Found). x .arriving) e ∙ t);
+      arriving = λ t. arrivingTo-of (λ p. station begin p .up) d begin (ap (λ (x : Found). x .arriving) e ∙ t);
       within = λ t.
           every-all (Sent (λ x. x ≤ d)) (sentTest (λ x. leb x d)) (sent-of (λ x. x ≤ d) (λ x. leb x d) (λ x. leb-true x d)) all
           (ap (λ (x : Found). x .within) e ∙ t);

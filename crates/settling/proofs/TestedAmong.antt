@@ -1,18 +1,16 @@
 -- The conditions of Paper 7 as tests, so that they can be computed for a given schedule, stretch and set of heads.
 use mathlib.Core.Path.{_≡_, refl, ap, _∙_}
 use mathlib.Core.Logic.{_≢_}
-use mathlib.Core.List.{List, [], _∷_}
+use mathlib.Core.List.{List}
 use mathlib.Core.Bool.{Bool, true, false, not, _&&_}
-use Prim.Native.Nat.{ℕ, _+_, _-_, _≤_}
+use Prim.Native.Nat.{ℕ, _+_, _<_, _≤_}
 use native.Mathlib.Omega.{arith}
 use lib.Dec.{leb, ltb, eqb}
 use lib.ListN.{length}
 use borrow.Author.Tests.{leb-true, ltb-true, eqb-false, eq-eqb, not-true}
-use Rattle.lists.specs.Test.{allTo}
-use Rattle.lists.proofs.Bools.{both, four}
-use Rattle.lists.proofs.Test.{all-at}
+use Rattle.lists.proofs.Bools.{four}
 use Rattle.election.specs.Commands.{Command, SetUp, Start, Crash, Link, Run, Lose, Report, Rank}
-use Rattle.election.specs.History.{after, commands, starts, isUp}
+use Rattle.election.specs.History.{commands, starts, isUp}
 use Rattle.election.specs.Schedule.{End, mostBytes, schedule}
 use Rattle.election.specs.System.{delay, underway}
 use Rattle.election.specs.Tick.{sending}
@@ -20,31 +18,8 @@ use Rattle.election.specs.declared.System.{System}
 use Rattle.election.proofs.Ruled.{byRules}
 use Rattle.election.proofs.Tables.{schedule-ruled}
 use Rattle.settling.specs.Settling.{ahead, befores}
-use Rattle.settling.specs.Steady.{grown, Throughout, AllUp, MoreStarts, FirstAmong, dividedTicksAmong, LosesNoneAmong, SentAmong, ArrivingTo, Steady, OthersMore, NoneLostAmong, NoneCutAmong, NoneLateAmong, boundAmong}
-use Rattle.settling.proofs.Tested.{every, every-all, implies, implied, pairs, pairs-at, empty-of, eachTest, each-of}
-
--- a test of every head
-module _ (n : ℕ) (t : ℕ → Bool) where
-  unfoldable pub heads : Bool
-  heads = allTo n (λ k. t (k + 1))
-
-  heads-at : heads ≡ true → (p : ℕ) → 1 ≤ p → p ≤ n → t p ≡ true
-  unfolding heads
-  heads-at e p low high =
-      let a : p - 1 + 1 ≡ p = omega arith in
-      rw a at (all-at n (p - 1) (λ k. t (k + 1)) e (omega arith))
-
--- a test at every moment of a stretch
-unfoldable pub throughoutTest : (List Command → Bool) → List Command → List (List ℕ) → System → Bool
-throughoutTest t cs [] s = t cs
-throughoutTest t cs (e ∷ es) s = t cs && throughoutTest t (grown cs s e) es (after s e)
-
-throughout-of : (P : List Command → Type 0) (t : List Command → Bool) → ((ds : List Command) → t ds ≡ true → P ds) → (cs : List Command) (es : List (List ℕ)) (s : System) → throughoutTest t cs es s ≡ true → Throughout P cs es s
-unfolding throughoutTest
-throughout-of P t f cs [] s g = f cs g
-throughout-of P t f cs (e ∷ es) s g =
-    let (a, b) = both (t cs) (throughoutTest t (grown cs s e) es (after s e)) g in
-    (f cs a, throughout-of P t f (grown cs s e) es (after s e) b)
+use Rattle.settling.specs.Steady.{AllUp, OthersMoreNow, FirstAmong, dividedTicksAmong, LosesNoneAmong, SentAmong, ArrivingTo, AllSteady, OthersMore, NoneLostAmong, NoneCutAmong, NoneLateAmong, boundAmong}
+use Rattle.settling.proofs.Tests.{every, every-all, empty-of, implies, implied, pairs, pairs-at, heads, heads-at, eachTest, each-of, throughoutTest, throughout-of}
 
 module _ (S : ℕ → Bool) where
   -- every head of S is up; every other one that is up has more starts than L; L is the first of S
@@ -58,15 +33,16 @@ module _ (S : ℕ → Bool) where
   unfoldable pub moreTest : ℕ → ℕ → List Command → Bool
   moreTest n L cs = heads n (λ p. implies (not (S p)) (implies (isUp false p cs) (ltb (starts L cs) (starts p cs))))
 
-  more-of : (n L : ℕ) (cs : List Command) → moreTest n L cs ≡ true → MoreStarts S n L cs
+  more-of : (n L : ℕ) (cs : List Command) → moreTest n L cs ≡ true → OthersMoreNow S n L cs
   unfolding moreTest
   more-of n L cs e p low high s u =
-      ltb-true _ _ (implied (isUp false p cs) _ (implied (not (S p)) _ (heads-at n _ e p low high) (ap not s)) u)
+      let more : starts L cs < starts p cs = ltb-true _ _ (implied (isUp false p cs) _ (implied (not (S p)) _ (heads-at n _ e p low high) (ap not s)) u) in
+      omega arith
 
   unfoldable pub firstAmongTest : ℕ → List Command → ℕ → Bool
   firstAmongTest n cs L = leb 1 L && leb L n && S L && pairs n (λ p q. implies (eqb q L) (implies (S p) (ahead cs L p)))
 
-  firstAmong-of : (n : ℕ) (cs : List Command) (L : ℕ) → firstAmongTest n cs L ≡ true → FirstAmong S n cs L
+  pub firstAmong-of : (n : ℕ) (cs : List Command) (L : ℕ) → firstAmongTest n cs L ≡ true → FirstAmong S n cs L
   unfolding firstAmongTest
   firstAmong-of n cs L e =
       let (a, b, one, all) = four (leb 1 L) (leb L n) (S L) _ e in
@@ -75,7 +51,7 @@ module _ (S : ℕ → Bool) where
       record {
         low = low;
         high = high;
-        is-one = one;
+        in-set = one;
         least = λ p lp hp s ne. implied (S p) _ (implied (eqb L L) _ (pairs-at n _ all p L lp hp low high ne) (eq-eqb L L refl)) s;
       }
 
@@ -91,7 +67,7 @@ module _ (S : ℕ → Bool) where
   unfoldable pub arrivingToTest : ℕ → System → Bool
   arrivingToTest d s = pairs (s .n) (λ p q. implies (S q) (every (λ m. leb (m .due) (s .tick + d)) (underway s p q)))
 
-  arrivingTo-of : (d : ℕ) (s : System) → arrivingToTest d s ≡ true → ArrivingTo S d s
+  pub arrivingTo-of : (d : ℕ) (s : System) → arrivingToTest d s ≡ true → ArrivingTo S d s
   unfolding arrivingToTest
   arrivingTo-of d s e p q lp hp lq hq ne sq =
       every-all _ _ (λ m g. leb-true (m .due) (s .tick + d) g) (underway s p q) (implied (S q) _ (pairs-at (s .n) _ e p q lp hp lq hq ne) sq)
@@ -106,7 +82,7 @@ module _ (S : ℕ → Bool) where
   losesNoneAmongTest Report s = true
   losesNoneAmongTest (Rank p r) s = true
 
-  losesNoneAmong-of : (c : Command) (s : System) → losesNoneAmongTest c s ≡ true → LosesNoneAmong S c s
+  pub losesNoneAmong-of : (c : Command) (s : System) → losesNoneAmongTest c s ≡ true → LosesNoneAmong S c s
   unfolding losesNoneAmongTest
   losesNoneAmong-of (SetUp clock n period) s e = tt
   losesNoneAmong-of (Start p) s e = tt
@@ -157,7 +133,7 @@ pub record SaysAmong (S : ℕ → Bool) (bytes : List ℕ) (stretch : List (List
   pub accepted : schedule bytes .refusal ≡ y .refusal
   pub flash : y .flash ≡ true → schedule bytes .system .clock ≡ false
   pub first : y .first ≡ true → FirstAmong S (schedule bytes .system .n) (commands bytes) L
-  pub steady : y .steady ≡ true → Steady S (commands bytes) stretch (schedule bytes .system)
+  pub steady : y .steady ≡ true → AllSteady S (commands bytes) stretch (schedule bytes .system)
   pub others : y .others ≡ true → OthersMore S L (commands bytes) stretch (schedule bytes .system)
   pub none-lost : y .none-lost ≡ true → NoneLostAmong S stretch (schedule bytes .system)
   pub none-cut : y .none-cut ≡ true → NoneCutAmong S stretch (schedule bytes .system)
@@ -179,7 +155,7 @@ saysAmong S bytes stretch d L y fits same =
       flash = λ t. not-true (begin .clock) (ap (λ (x : FoundAmong). x .flash) e ∙ t);
       first = λ t. firstAmong-of S (begin .n) cs L (ap (λ (x : FoundAmong). x .first) e ∙ t);
       steady = λ t. throughout-of (AllUp S (begin .n)) (allUpTest S (begin .n)) (allUp-of S (begin .n)) cs stretch begin (ap (λ (x : FoundAmong). x .steady) e ∙ t);
-      others = λ t. throughout-of (MoreStarts S (begin .n) L) (moreTest S (begin .n) L) (more-of S (begin .n) L) cs stretch begin (ap (λ (x : FoundAmong). x .others) e ∙ t);
+      others = λ t. throughout-of (OthersMoreNow S (begin .n) L) (moreTest S (begin .n) L) (more-of S (begin .n) L) cs stretch begin (ap (λ (x : FoundAmong). x .others) e ∙ t);
       none-lost = λ t. each-of (LosesNoneAmong S) (losesNoneAmongTest S) (losesNoneAmong-of S) stretch begin (ap (λ (x : FoundAmong). x .none-lost) e ∙ t);
       none-cut = λ t.
           every-all (SentAmong S (λ x. x ≢ 0)) (sentAmongTest S (λ x. not (eqb x 0)))

@@ -1,5 +1,5 @@
--- The leader that demand 3 and Paper 7 speak of: whenever a head is up, or is in the set, there is one, and only one; with equal ranks that of demand 3
--- is document 01's.
+-- The leader that demand 3 and Paper 7 speak of: whenever a head is up there is one, and only one, and so for every set of heads that isn't empty; with
+-- equal ranks that of demand 3 is document 01's.
 use mathlib.Core.Path.{_≡_}
 use mathlib.Core.Logic.{_⊎_, _≢_, _↔_}
 use mathlib.Core.List.{List}

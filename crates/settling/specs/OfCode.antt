@@ -8,7 +8,7 @@ use Rattle.lists.specs.Every.{All}
 use Rattle.election.specs.Commands.{Bytes, command, said as saidCommand}
 use Rattle.election.specs.Schedule.{schedule, said as saidSchedule}
 use Rattle.settling.specs.Settling.{First, Quiet, given, Settles}
-use Rattle.settling.specs.Steady.{FirstAmong, QuietAmong, SettlesAmong}
+use Rattle.settling.specs.Steady.{FirstAmong, SteadyStretch, SettlesAmong}
 use Rattle.election.specs.History.{commands, reached}
 use Rattle.election.specs.System.{fresh}
 use Rattle.election.specs.declared.Commanded.{Commanded}
@@ -60,7 +60,7 @@ SteadySettlingOfCode =
     → saidSchedule (g bytes) .refusal ≡ 0
     → g bytes .system .clock ≡ false
     → FirstAmong S (g bytes .system .n) (commands bytes) L
-    → QuietAmong S d L (commands bytes) stretch (g bytes .system)
+    → SteadyStretch S d L (commands bytes) stretch (g bytes .system)
     → SettlesAmong S d L stretch (g bytes .system)
     × (g bytes .system ≡ reached (commands bytes) fresh)
     × ((k : ℕ) → obeyed f (take k stretch) (g bytes .system) ≡ given (take k stretch) (g bytes .system))

@@ -1,5 +1,5 @@
--- The words of Paper 7, and the claim: the bound holds for heads that are up for the whole stretch, while the others start and crash. S says which heads
--- are meant; the ticks of a stretch and what Command answers are told as for demand 3.
+-- The words of Paper 7, and the claim: the bound holds for steady heads, which are up for the whole stretch, while the others start and crash. S is the
+-- set of heads that is meant; the ticks of a stretch and what Command answers are told as for demand 3.
 use mathlib.Core.Path.{_≡_}
 use mathlib.Core.Logic.{_≢_, _↔_}
 use mathlib.Core.List.{List, [], _∷_, _++_}
@@ -19,35 +19,35 @@ use Rattle.election.specs.System.{fresh, station, delay, underway}
 use Rattle.election.specs.Tick.{sending, tick}
 use Rattle.election.specs.declared.Message.{Message}
 use Rattle.election.specs.declared.System.{System}
-use Rattle.settling.specs.Settling.{ahead, befores, divided, Each, longestWait, longestTimeout, upHeads, answered, given, Settling}
+use Rattle.settling.specs.Settling.{ahead, First, befores, divided, Each, Quiet, longestWait, longestTimeout, upHeads, answered, given, Settles}
 
--- the accepted commands so far, and with one entry more
-abbrev pub grown : List Command → System → List ℕ → List Command
-grown cs s e = cs ++ cond (accepted s e) (decode e ∷ []) []
+-- the accepted commands, with this entry if it is accepted
+abbrev pub withEntry : List Command → System → List ℕ → List Command
+withEntry cs s e = cs ++ cond (accepted s e) (decode e ∷ []) []
 
--- at every moment of a stretch: of the accepted commands before its first entry, and after each entry
+-- P holds of the accepted commands before the first entry of a stretch, and after each entry
 abbrev pub Throughout : (List Command → Type 0) → List Command → List (List ℕ) → System → Type 0
 Throughout P cs [] s = P cs
-Throughout P cs (e ∷ es) s = P cs × Throughout P (grown cs s e) es (after s e)
+Throughout P cs (e ∷ es) s = P cs × Throughout P (withEntry cs s e) es (after s e)
 
 -- whether a head is steady: up for the whole stretch
-unfoldable pub steadyIn : List Command → List (List ℕ) → System → ℕ → Bool
-steadyIn cs [] s p = isUp false p cs
-steadyIn cs (e ∷ es) s p = isUp false p cs && steadyIn (grown cs s e) es (after s e) p
+unfoldable pub isSteady : List Command → List (List ℕ) → System → ℕ → Bool
+isSteady cs [] s p = isUp false p cs
+isSteady cs (e ∷ es) s p = isUp false p cs && isSteady (withEntry cs s e) es (after s e) p
 
--- every head of S is up
+-- at one moment: every head of S is up
 abbrev pub AllUp : (ℕ → Bool) → ℕ → List Command → Type 0
 AllUp S n cs = (p : ℕ) → 1 ≤ p → p ≤ n → S p ≡ true → isUp false p cs ≡ true
 
--- every other head that is up has strictly more starts than L
-abbrev pub MoreStarts : (ℕ → Bool) → ℕ → ℕ → List Command → Type 0
-MoreStarts S n L cs = (p : ℕ) → 1 ≤ p → p ≤ n → S p ≡ false → isUp false p cs ≡ true → starts L cs < starts p cs
+-- at one moment: every other head that is up has strictly more starts than L
+abbrev pub OthersMoreNow : (ℕ → Bool) → ℕ → ℕ → List Command → Type 0
+OthersMoreNow S n L cs = (p : ℕ) → 1 ≤ p → p ≤ n → S p ≡ false → isUp false p cs ≡ true → starts L cs < starts p cs
 
 -- L is the first of the heads of S, by starts, rank and number
 pub record FirstAmong (S : ℕ → Bool) (n : ℕ) (cs : List Command) (L : ℕ) : Type 0 where
   pub low : 1 ≤ L
   pub high : L ≤ n
-  pub is-one : S L ≡ true
+  pub in-set : S L ≡ true
   pub least : (p : ℕ) → 1 ≤ p → p ≤ n → S p ≡ true → p ≢ L → ahead cs L p ≡ true
 
 -- at the end of a tick some head of S doesn't trust L
@@ -80,32 +80,39 @@ abbrev pub ArrivingTo : (ℕ → Bool) → ℕ → System → Type 0
 ArrivingTo S d s =
     (p q : ℕ) → 1 ≤ p → p ≤ s .n → 1 ≤ q → q ≤ s .n → p ≢ q → S q ≡ true → All (λ (m : Message). m .due ≤ s .tick + d) (underway s p q)
 
--- the conditions on a stretch that begins with the system s, after the accepted commands cs: every head of S is up for the whole stretch
-abbrev pub Steady : (ℕ → Bool) → List Command → List (List ℕ) → System → Type 0
-Steady S cs es s = Throughout (AllUp S (s .n)) cs es s
+-- every head of S is steady in the stretch that begins with s, after the accepted commands cs
+abbrev pub AllSteady : (ℕ → Bool) → List Command → List (List ℕ) → System → Type 0
+AllSteady S cs es s = Throughout (AllUp S (s .n)) cs es s
 
--- every other head has strictly more starts than L whenever it is up
+-- every other head has strictly more starts than L whenever it is up in it
 abbrev pub OthersMore : (ℕ → Bool) → ℕ → List Command → List (List ℕ) → System → Type 0
-OthersMore S L cs es s = Throughout (MoreStarts S (s .n) L) cs es s
+OthersMore S L cs es s = Throughout (OthersMoreNow S (s .n) L) cs es s
 
--- no message between heads of S is lost, and none is cut
+-- no message between heads of S is lost
 abbrev pub NoneLostAmong : (ℕ → Bool) → List (List ℕ) → System → Type 0
 NoneLostAmong S es s = Each (LosesNoneAmong S) es s
 
+-- none that one of them sends to another is cut
 abbrev pub NoneCutAmong : (ℕ → Bool) → List (List ℕ) → System → Type 0
 NoneCutAmong S es s = All (SentAmong S (λ x. x ≢ 0)) (befores es s)
 
--- none that one sends to another needs more than d ticks
+-- none that one of them sends to another needs more than d ticks
 abbrev pub NoneLateAmong : (ℕ → Bool) → ℕ → List (List ℕ) → System → Type 0
 NoneLateAmong S d es s = All (SentAmong S (λ x. x ≤ d)) (befores es s)
 
-pub record QuietAmong (S : ℕ → Bool) (d L : ℕ) (cs : List Command) (es : List (List ℕ)) (s : System) : Type 0 where
-  pub steady : Steady S cs es s
-  pub others : OthersMore S L cs es s
+-- what Paper 7 asks of messages: none between heads of S is lost, cut or sent with more than d ticks to go, and each under way to one of them at the
+-- beginning needs at most d more ticks
+pub record MessagesAmong (S : ℕ → Bool) (d : ℕ) (es : List (List ℕ)) (s : System) : Type 0 where
   pub none-lost : NoneLostAmong S es s
   pub none-cut : NoneCutAmong S es s
   pub arriving : ArrivingTo S d s
   pub within : NoneLateAmong S d es s
+
+-- what it asks of a stretch: every head of S is steady, the others have more starts than L, and the messages are as above
+pub record SteadyStretch (S : ℕ → Bool) (d L : ℕ) (cs : List Command) (es : List (List ℕ)) (s : System) : Type 0 where
+  pub steady : AllSteady S cs es s
+  pub others : OthersMore S L cs es s
+  pub messages : MessagesAmong S d es s
 
 -- W: the longest start-up wait left to a head of S
 unfoldable pub longestWaitAmong : (ℕ → Bool) → System → ℕ
@@ -133,27 +140,58 @@ pub record SettlesAmong (S : ℕ → Bool) (d L : ℕ) (es : List (List ℕ)) (s
   -- after every prefix of the stretch the system that Command answers is the one that the rules give
   pub answers : (k : ℕ) → answered (take k es) s ≡ given (take k es) s
 
--- Paper 7, of flash heads, for every set of steady heads that has one or more: L is one of them
+-- Paper 7, of flash heads, for every set of steady heads with L in it
 abbrev pub SteadySettling : Type 0
 SteadySettling =
     (bytes : List ℕ) (stretch : List (List ℕ)) (S : ℕ → Bool) (d L : ℕ)
     → schedule bytes .refusal ≡ 0
     → schedule bytes .system .clock ≡ false
     → FirstAmong S (schedule bytes .system .n) (commands bytes) L
-    → QuietAmong S d L (commands bytes) stretch (schedule bytes .system)
+    → SteadyStretch S d L (commands bytes) stretch (schedule bytes .system)
     → SettlesAmong S d L stretch (schedule bytes .system) × (schedule bytes .system ≡ reached (commands bytes) fresh)
 
--- the sets in question are those of steady heads, and the largest of them is that of all: with it the claim is the request's
+-- the heads that are steady in a stretch after a schedule
+abbrev pub steadyHeads : List ℕ → List (List ℕ) → ℕ → Bool
+steadyHeads bytes stretch = isSteady (commands bytes) stretch (schedule bytes .system)
+
+-- so it is for all of them together, as the request has it
+abbrev pub AllSteadySettling : Type 0
+AllSteadySettling =
+    (bytes : List ℕ) (stretch : List (List ℕ)) (d L : ℕ)
+    → schedule bytes .refusal ≡ 0
+    → schedule bytes .system .clock ≡ false
+    → FirstAmong (steadyHeads bytes stretch) (schedule bytes .system .n) (commands bytes) L
+    → OthersMore (steadyHeads bytes stretch) L (commands bytes) stretch (schedule bytes .system)
+    → MessagesAmong (steadyHeads bytes stretch) d stretch (schedule bytes .system)
+    → SettlesAmong (steadyHeads bytes stretch) d L stretch (schedule bytes .system)
+
+-- the sets in question are those of steady heads
 abbrev pub SteadyOnes : Type 0
 SteadyOnes =
     (S : ℕ → Bool) (cs : List Command) (es : List (List ℕ)) (s : System)
-    → Steady S cs es s ↔ ((p : ℕ) → 1 ≤ p → p ≤ s .n → S p ≡ true → steadyIn cs es s p ≡ true)
+    → AllSteady S cs es s ↔ ((p : ℕ) → 1 ≤ p → p ≤ s .n → S p ≡ true → isSteady cs es s p ≡ true)
 
--- demand 3 follows: in its stretches nobody starts or crashes, so the heads that are up at the beginning are steady
+-- the heads that are up after a schedule
+abbrev pub upAfter : List ℕ → ℕ → Bool
+upAfter bytes p = isUp false p (commands bytes)
+
+-- Demand 3 is the case in which nobody starts or crashes: its conditions are Paper 7's of the heads that are up at the beginning, and what Paper 7 says
+-- of them then is what it says
+pub record DemandOf (bytes : List ℕ) (stretch : List (List ℕ)) (d L : ℕ) : Type 0 where
+  pub first : FirstAmong (upAfter bytes) (schedule bytes .system .n) (commands bytes) L
+  pub steady : SteadyStretch (upAfter bytes) d L (commands bytes) stretch (schedule bytes .system)
+  pub settles : SettlesAmong (upAfter bytes) d L stretch (schedule bytes .system) → Settles d L stretch (schedule bytes .system)
+
 abbrev pub DemandFollows : Type 0
-DemandFollows = SteadySettling → Settling
+DemandFollows =
+    (bytes : List ℕ) (stretch : List (List ℕ)) (d L : ℕ)
+    → schedule bytes .refusal ≡ 0
+    → schedule bytes .system .clock ≡ false
+    → First (schedule bytes .system .n) (commands bytes) L
+    → Quiet d stretch (schedule bytes .system)
+    → DemandOf bytes stretch d L
 
--- and where S says who is up, the words are demand 3's
+-- where S says who is up, the words are demand 3's
 pub record SameWords (S : ℕ → Bool) (L : ℕ) (s : System) : Type 0 where
   pub of-divided : dividedAmong S L s ≡ divided L s
   pub of-wait : longestWaitAmong S s ≡ longestWait s
