@@ -1,2 +1,2 @@
-// What is asked of a head by its kind: rules for the crates above, which test soundness first.
+// What is asked of a head by its kind: rules for the desk's crates.
 pub mod rules;

@@ -1,6 +1,6 @@
 // What is asked of a head by its kind, a running clock or flash: whether it sends, how it starts, what fits it, what its messages carry. Hearing, the end of
-// a timer and a send chance are chosen where a run stores the station. The simulator's operations test soundness and start a station where `decide` has
-// taken the command, so what a start requires can be met.
+// a timer and a send chance are chosen where a run stores the station. The simulator tests soundness and starts a station only where `decide` accepts the
+// command, so what `start` requires is met there.
 ghost use mathlib.Core.Path.{_≡_};
 ghost use Prim.Native.Nat.{_≤_, _<_};
 ghost use Rattle.station.specs.Limits.{lastTick, mostStarts};

@@ -1,4 +1,4 @@
--- G. The invariant holds where a quiet stretch begins.
+-- G. The invariant holds where a stretch with steady heads begins.
 use mathlib.Core.Path.{_≡_, refl, sym, _∙_}
 use mathlib.Core.Logic.{_≢_}
 use mathlib.Core.List.{List}

@@ -79,7 +79,7 @@ module _ (K : Stretch) (x y : System) (l : Leaves K x y) (h : Inv K x) where
               let ip : In (K .n) (k + 1) = seat-in (K .n) k i in
               le-of-eq (rw (l .tick, same-deadline (k + 1) ip u, l .heads (k + 1) ip u))
 
--- as many divided ticks are to come
+-- the limit on the divided ticks to come stays
 pub leaves-budget : (K : Stretch) (N : ℕ) (x y : System) → Leaves K x y → Budget K N x → Budget K N y
 leaves-budget K N x y l b =
     record {

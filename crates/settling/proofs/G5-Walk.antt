@@ -1,4 +1,4 @@
--- G. The count of divided ticks along the entries of a quiet stretch.
+-- G. The count of divided ticks along the entries of a stretch with steady heads.
 use mathlib.Core.Path.{_≡_, refl, sym, ap, _∙_}
 use mathlib.Core.Logic.{_≢_}
 use mathlib.Core.Bool.{Bool, true, false, cond, not, true≢false}
@@ -72,12 +72,12 @@ pay-run K N (suc t) x room cut short b =
     let r : Paid K (a .0) (dividedTicksAmong (K .steady) (K .L) (moments t (tick x))) (ticks t (tick x)) = pay-run K (a .0) t (tick x) (rw (tick-tick x) (omega arith)) (cut .1) (short .1) (a .1) in
     record { left = r .left; budget = r .budget; paid = omega (arith, a .2, r .paid) }
 
--- an accepted start or crash is of an unsteady head, since steady heads are up before it and after it
+-- a start or crash of an unsteady head takes nothing
 pay-change : (K : Stretch) (N : ℕ) (x : System) → Budget K N x → (p : ℕ) → In (x .n) p → K .steady p ≡ false → (z : Station) → Reached (withStation p z x) → StillSteady (K .steady) (K .n) (K .L) (withStation p z x)
     → Paid K N 0 (withStation p z x)
 pay-change K N x b p ip ns z r h = free K N _ (leaves-budget K N x _ (change-leaves K x p ip ns z r h (b .inv)) b)
 
--- what an accepted entry takes
+-- what an accepted entry takes; a start or crash is of an unsteady head, since steady heads are up before it and after it
 pay : (K : Stretch) (N : ℕ) (c : Command) (x : System) → x .ready ≡ true → Accepts c x → LosesNoneAmong (K .steady) c x
     → All (SentAmong (K .steady) (λ y. y ≢ 0)) (ticksOf c x) → All (SentAmong (K .steady) (λ y. y ≤ K .d)) (ticksOf c x)
     → Budget K N x → StillSteady (K .steady) (K .n) (K .L) (perform c x) → Paid K N (dividedTicksAmong (K .steady) (K .L) (ticksOf c x)) (perform c x)

@@ -125,4 +125,4 @@ steady-settling bytes stretch S d L ok flash first quiet =
 pub all-steady-settling : AllSteadySettling
 all-steady-settling bytes stretch d L ok flash first others messages =
     steady-settling bytes stretch (steadyHeads bytes stretch) d L ok flash first
-    (record { steady = steady-ones (steadyHeads bytes stretch) (commands bytes) stretch (schedule bytes .system) .1 (λ p low high s. s); others = others; messages = messages }) .0
+    (record { steady = steady-ones (steadyHeads bytes stretch) (commands bytes) stretch (schedule bytes .system) .1 (λ p low high s. s); others = others; messages = messages })

@@ -47,7 +47,7 @@ beforeRestarts = setUp 3 16 ++ link 2 1 64 ++ start 1 ++ start 2 ++ run 20 ++ st
 
 -- The message of 1 to 3 is lost, and 2's to 1; the links from 1 to 2 and from 3 to 1 are cut, the one from 1 to 3 is slow. 1 starts, sends at tick
 -- 51 and crashes at 55; its message to 3 is lost too. It starts again and sends at 74 and 90; 3 hears the first of these at 94. A start of 2, which is
--- up, is refused, and a loss from 2 to 3 finds nothing. 2 trusts the dead 1, but for tick 35, until its timer ends at 54; then itself. It sends at 65,
+-- up, is refused, and a loss from 2 to 3 finds nothing. 2 trusts 1, by its old message, but for tick 35, until its timer ends at 54; then itself. It sends at 65,
 -- and from 68 on 3 trusts it too. 1 trusts itself to the end.
 abbrev pub restarts : List (List ℕ)
 restarts =
@@ -70,7 +70,7 @@ pub record Restarting : Type 0 where
   pub second-start : starts 1 (withEntries (commands beforeRestarts) (take 11 restarts) begin) ≡ 3
   pub up-again : isUp false 1 (withEntries (commands beforeRestarts) restarts begin) ≡ true
   pub apart : station (given restarts begin) 1 .leader ≡ 1
-  -- it sends three times in the stretch, to 2 over the cut link and to 3, which hears it late; and 3 sends twice, to 1 over the cut link and to 2
+  -- it sends three times in the stretch, to 2 over the cut link and to 3, which hears the second, 20 ticks later; and 3 sends twice, to 1 over the cut link and to 2
   pub sent : sentBy (given restarts begin) 1 ≡ sentBy begin 1 + 6
   pub heard : entry (station (given restarts begin) 3 .recovered) 1 ≡ 3
   pub sent-to-it : sentBy (given restarts begin) 3 ≡ sentBy begin 3 + 4
@@ -82,8 +82,8 @@ pub record Restarting : Type 0 where
   pub lost-then : dues (underway (given (take 9 restarts) begin) 1 3) ≡ 71 ∷ []
   pub refused : ruling (given (take 11 restarts) begin) (start 2) ≡ 8
 
--- Three stations start, 1 for the second time; it is up when the stretch begins, with a longer wait and longer timeouts than 2 and 3. It hears
--- nobody, sends at tick 18, and crashes at 20; then 3 hears 2.
+-- Three stations start, 1 for the second time; it is up when the stretch begins, with a longer wait and longer timeouts than 2 and 3. It hears nobody
+-- and sends at tick 18. In tick 20 station 3 hears 2; after it 1 crashes.
 abbrev pub beforeCrashing : List ℕ
 beforeCrashing = setUp 3 16 ++ link 2 3 3 ++ link 3 2 3 ++ link 2 1 0 ++ link 3 1 0 ++ start 2 ++ start 3 ++ start 1 ++ crash 1 ++ start 1
 

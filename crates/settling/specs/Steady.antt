@@ -163,7 +163,7 @@ AllSteadySettling =
     → FirstAmong (steadyHeads bytes stretch) (schedule bytes .system .n) (commands bytes) L
     → OthersMore (steadyHeads bytes stretch) L (commands bytes) stretch (schedule bytes .system)
     → MessagesAmong (steadyHeads bytes stretch) d stretch (schedule bytes .system)
-    → SettlesAmong (steadyHeads bytes stretch) d L stretch (schedule bytes .system)
+    → SettlesAmong (steadyHeads bytes stretch) d L stretch (schedule bytes .system) × (schedule bytes .system ≡ reached (commands bytes) fresh)
 
 -- the sets in question are those of steady heads
 abbrev pub SteadyOnes : Type 0
@@ -175,8 +175,8 @@ SteadyOnes =
 abbrev pub upAfter : List ℕ → ℕ → Bool
 upAfter bytes p = isUp false p (commands bytes)
 
--- Demand 3 is the case in which nobody starts or crashes: its conditions are Paper 7's of the heads that are up at the beginning, and what Paper 7 says
--- of them then is what it says
+-- Demand 3 is the case in which nobody starts or crashes: its conditions give Paper 7's for the heads that are up at the beginning, and what Paper 7 then
+-- says of these gives what demand 3 says
 pub record DemandOf (bytes : List ℕ) (stretch : List (List ℕ)) (d L : ℕ) : Type 0 where
   pub first : FirstAmong (upAfter bytes) (schedule bytes .system .n) (commands bytes) L
   pub steady : SteadyStretch (upAfter bytes) d L (commands bytes) stretch (schedule bytes .system)
