@@ -1,8 +1,9 @@
 // stretches COUNT SEED PROGRAM: tries the bound on divided ticks, demand 3 and Paper 7 of document 02, on fixed rows and
 // on COUNT cases made from SEED: a schedule of flash heads, a stretch after it and the heads that are steady in it, so
 // that the conditions are met. The ticks are counted on the independent desk (desk.rs) and, where a report at every tick
-// fits into a schedule, once more from what PROGRAM prints. The bytes of a case that fails are kept as
-// fails-SEED-case-NUMBER.bin in the current folder. Prints what was reached and 'N passed, M failed'.
+// fits into a schedule, once more from what PROGRAM prints. The bytes of a row or case that fails are kept as
+// fails-SEED-row-NUMBER.bin or fails-SEED-case-NUMBER.bin in the current folder. Prints what was reached and
+// 'N passed, M failed'.
 
 mod desk;
 mod random;
