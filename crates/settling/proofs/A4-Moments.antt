@@ -4,15 +4,18 @@ use mathlib.Core.Bool.{Bool, true, false, cond}
 use mathlib.Core.List.{List, [], _∷_, _++_, append-nil}
 use Prim.Native.Nat.{ℕ, _≤_}
 use borrow.Author.Tests.{eqb-true}
+use Rattle.lists.specs.Every.{All}
 use Rattle.lists.specs.First.{firstFailed}
 use Rattle.lists.proofs.Bools.{both, cond-elim}
-use Rattle.election.specs.Commands.{Command, decode, tests, perform}
+use Rattle.lists.proofs.Every.{all-append}
+use Rattle.election.specs.Commands.{Command, SetUp, Start, Crash, Link, Run, Lose, Report, Rank, decode, tests, perform}
 use Rattle.election.specs.History.{accepted, after, isUp, reached}
 use Rattle.election.specs.System.{fresh}
 use Rattle.election.specs.declared.System.{System}
 use Rattle.election.proofs.Accepting.{Accepts, accepts, ruling-tests}
 use Rattle.election.proofs.Counts.{ready-after, n-after, clock-after, FromFresh, from-fresh}
 use Rattle.election.proofs.Followed.{Allowed, after-yes, after-no}
+use Rattle.settling.specs.Settling.{moments, ticksOf, befores}
 use Rattle.settling.specs.Steady.{withEntry, Throughout, isSteady, AllUp, SteadyOnes}
 use Rattle.settling.proofs.A3-Reaching.{Arrived, fresh-arrived, reached-arrived}
 
@@ -99,3 +102,23 @@ after-flash s e (r, flash) =
 pub n-kept : (x : System) (e : List ℕ) → x .ready ≡ true → after x e .n ≡ x .n
 unfolding after
 n-kept x e r = cond-elim (λ (y : System). y .n ≡ x .n) (accepted x e) (λ t. n-after (decode e) x r (accepts (decode e) x (ruling-tests x e (eqb-true _ _ t)))) (λ t. refl)
+
+-- what holds at every tick of a run, at whatever moment of the stretch it begins, holds at every tick of the stretch; Q holds at every moment
+module _ (P : System → Type 0) (Q : List Command → Type 0) (run : (cs : List Command) (x : System) → GivenBy cs x → Flash x → Q cs → (t : ℕ) → All P (moments t x)) where
+  entry-ticks : (cs : List Command) (x : System) → GivenBy cs x → Flash x → Q cs → (c : Command) → All P (ticksOf c x)
+  entry-ticks cs x h f q (SetUp clock n period) = tt
+  entry-ticks cs x h f q (Start p) = tt
+  entry-ticks cs x h f q (Crash p) = tt
+  entry-ticks cs x h f q (Link a b d) = tt
+  entry-ticks cs x h f q (Run t) = run cs x h f q t
+  entry-ticks cs x h f q (Lose a b) = tt
+  entry-ticks cs x h f q Report = tt
+  entry-ticks cs x h f q (Rank p r) = tt
+
+  pub stretch-ticks : (cs : List Command) (es : List (List ℕ)) (x : System) → GivenBy cs x → Flash x → Throughout Q cs es x → All P (befores es x)
+  unfolding befores
+  stretch-ticks cs [] x h f q = tt
+  stretch-ticks cs (e ∷ es) x h f q =
+      all-append P (cond (accepted x e) (ticksOf (decode e) x) []) (befores es (after x e))
+      (cond-elim (All P) (accepted x e) (λ t. entry-ticks cs x h f (q .0) (decode e)) (λ t. tt))
+      (stretch-ticks (withEntry cs x e) es (after x e) (given-after cs x h e) (after-flash x e f) (q .1))

@@ -8,15 +8,13 @@ use lib.Dec.{eqb}
 use lib.ListN.{length, take}
 use borrow.Author.Tests.{not-false, eqb-true}
 use Rattle.lists.specs.Every.{All}
-use Rattle.lists.proofs.Bools.{cond-elim}
-use Rattle.lists.proofs.Every.{all-append}
 use Rattle.lists.proofs.Test.{all-at}
 use Rattle.station.specs.declared.Station.{Station}
-use Rattle.election.specs.Commands.{Command, SetUp, Start, Crash, Link, Run, Lose, Report, Rank, decode}
+use Rattle.election.specs.Commands.{Command}
 use Rattle.election.specs.Schedule.{schedule}
-use Rattle.settling.specs.Settling.{moments, ticksOf, befores, answered, given}
-use Rattle.settling.specs.Steady.{withEntry, AllUp, OthersMoreNow, dividedAmong, dividedTicksAmong, SteadyStretch, headsAmong, boundAmong, SteadySettling, steadyHeads, AllSteadySettling}
-use Rattle.election.specs.History.{accepted, after, commands}
+use Rattle.settling.specs.Settling.{moments, befores, answered, given}
+use Rattle.settling.specs.Steady.{withEntry, AllUp, AllSteady, OthersMoreNow, dividedAmong, dividedTicksAmong, SteadyStretch, headsAmong, boundAmong, SteadySettling, steadyHeads, AllSteadySettling}
+use Rattle.election.specs.History.{after, commands}
 use Rattle.election.specs.System.{station, fresh}
 use Rattle.election.specs.Tick.{sending, tick}
 use Rattle.election.specs.declared.System.{System}
@@ -28,7 +26,7 @@ use Rattle.election.proofs.Places.{In, tick-n, tick-clock}
 use Rattle.election.proofs.Ranks.{rank-is-latest}
 use Rattle.settling.proofs.F-Potential.{tri, tri-double}
 use Rattle.settling.proofs.A2-Reached.{Reached}
-use Rattle.settling.proofs.A4-Moments.{GivenBy, given-arrived, given-told, given-after, steady-ones, at-once, Flash, after-flash}
+use Rattle.settling.proofs.A4-Moments.{GivenBy, given-arrived, given-told, given-after, steady-ones, at-once, Flash, stretch-ticks}
 use Rattle.settling.proofs.G3-Begins.{still-steady, FirstHere, from-here, begin-inv}
 use Rattle.settling.proofs.G5-Walk.{walk}
 
@@ -58,23 +56,9 @@ unfolding moments
 silent-run S L zero x small flash = tt
 silent-run S L (suc t) x small flash = (silent-tick S L x small flash, silent-run S L t (tick x) (rw (tick-n x) small) (tick-clock x ∙ flash))
 
-silent-command : (S : ℕ → Bool) (L : ℕ) (c : Command) (x : System) → Reached x → All (Silent S L) (ticksOf c x)
-silent-command S L (SetUp clock n period) x h = tt
-silent-command S L (Start p) x h = tt
-silent-command S L (Crash p) x h = tt
-silent-command S L (Link p q d) x h = tt
-silent-command S L (Run t) x h = silent-run S L t x (h .sound .n-high) (h .flash)
-silent-command S L (Lose p q) x h = tt
-silent-command S L Report x h = tt
-silent-command S L (Rank p r) x h = tt
-
-silent : (S : ℕ → Bool) (L : ℕ) (cs : List Command) (es : List (List ℕ)) (x : System) → GivenBy cs x → Flash x → All (Silent S L) (befores es x)
-unfolding befores
-silent S L cs [] x h f = tt
-silent S L cs (e ∷ es) x h f =
-    all-append (Silent S L) (cond (accepted x e) (ticksOf (decode e) x) []) (befores es (after x e))
-    (cond-elim (All (Silent S L)) (accepted x e) (λ t. silent-command S L (decode e) x (given-arrived cs x h .reached (f .0) (f .1))) (λ t. tt))
-    (silent S L (withEntry cs x e) es (after x e) (given-after cs x h e) (after-flash x e f))
+silent : (S : ℕ → Bool) (L : ℕ) (cs : List Command) (es : List (List ℕ)) (x : System) → GivenBy cs x → Flash x → AllSteady S cs es x → All (Silent S L) (befores es x)
+silent S L cs es x =
+    stretch-ticks (Silent S L) (AllUp S (x .n)) (λ ds y h f up t. silent-run S L t y (given-arrived ds y h .reached (f .0) (f .1) .sound .n-high) (f .1)) cs es x
 
 -- (k - 1)(d - 1)(d - 2) / 2
 half-of : (j m : ℕ) → j * (m + 1) * m / 2 ≡ j * tri m
@@ -120,7 +104,7 @@ steady-settling bytes stretch S d L ok flash first quiet =
           rw (g .counted flash L i, g .counted flash p ip, rank-is-latest bytes ok L (i .low) (i .high), rank-is-latest bytes ok p (ip .low) (ip .high)) (first .least p (ip .low) (ip .high) c ne);
       still = still-steady S (s .n) L cs s i refl flash g (at-once (AllUp S (s .n)) cs stretch s (quiet .steady)) (at-once (OthersMoreNow S (s .n) L) cs stretch s (quiet .others));
     } in
-    (record { few = few S d L cs stretch s h here is-given quiet; silent = silent S L cs stretch s is-given (ready, flash); answers = λ k. answers k cs stretch s is-given }, f .system)
+    (record { few = few S d L cs stretch s h here is-given quiet; silent = silent S L cs stretch s is-given (ready, flash) (quiet .steady); answers = λ k. answers k cs stretch s is-given }, f .system)
 
 pub all-steady-settling : AllSteadySettling
 all-steady-settling bytes stretch d L ok flash first others messages =

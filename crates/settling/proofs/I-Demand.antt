@@ -9,9 +9,8 @@ use lib.Dec.{eqb}
 use borrow.Author.Tests.{eqb-true}
 use Rattle.lists.specs.Every.{All}
 use Rattle.lists.specs.Largest.{maxTo}
-use Rattle.lists.proofs.Bools.{cond-elim}
 use Rattle.lists.proofs.Count.{count-same}
-use Rattle.lists.proofs.Every.{all-both, all-append}
+use Rattle.lists.proofs.Every.{all-both}
 use Rattle.lists.proofs.Largest.{max-same}
 use Rattle.lists.proofs.Test.{all-same}
 use Rattle.station.specs.Order.{entry}
@@ -26,9 +25,9 @@ use Rattle.election.proofs.Accepting.{Accepts, accepts, ruling-tests}
 use Rattle.election.proofs.Followed.{accepted-schedule}
 use Rattle.election.proofs.Places.{In, seat-in, seat-of, tick-n}
 use Rattle.election.proofs.Steps.{sending-of, tick-up}
-use Rattle.settling.specs.Settling.{First, moments, ticksOf, befores, dividedTicks, Permitted, LosesNone, Each, Sent, longestWait, longestTimeout, upHeads, bound, Settling}
+use Rattle.settling.specs.Settling.{First, moments, befores, dividedTicks, Permitted, LosesNone, Each, Sent, longestWait, longestTimeout, upHeads, bound, Settling}
 use Rattle.settling.specs.Steady.{withEntry, Throughout, AllUp, OthersMoreNow, FirstAmong, dividedTicksAmong, LosesNoneAmong, SentAmong, longestWaitAmong, longestTimeoutAmong, headsAmong, boundAmong, upAfter, DemandOf, DemandFollows, SameWords, UpHeadsWords}
-use Rattle.settling.proofs.A4-Moments.{GivenBy, given-arrived, given-told, given-after, throughout-map, Flash, after-flash}
+use Rattle.settling.proofs.A4-Moments.{GivenBy, given-arrived, given-told, given-after, throughout-map, Flash, stretch-ticks}
 use Rattle.settling.proofs.H-Steady.{steady-settling}
 
 -- where S says who is up, the words are the same
@@ -106,23 +105,10 @@ module _ (S : ℕ → Bool) where
       let next : UpInSystem S (tick x) = tick-shows x small h in
       ((h, next), run-shows t (tick x) (rw (tick-n x) small) next)
 
-  command-shows : (c : Command) (x : System) → x .n ≤ 8 → UpInSystem S x → All (UpAround S) (ticksOf c x)
-  command-shows (SetUp clock n period) x small h = tt
-  command-shows (Start p) x small h = tt
-  command-shows (Crash p) x small h = tt
-  command-shows (Link p q d) x small h = tt
-  command-shows (Run t) x small h = run-shows t x small h
-  command-shows (Lose p q) x small h = tt
-  command-shows Report x small h = tt
-  command-shows (Rank p r) x small h = tt
-
   -- at a moment of the stretch
   module _ (cs : List Command) (x : System) (is-given : GivenBy cs x) (told : UpByCommands S cs) where
     shows : UpInSystem S x
     shows p low high = told p ∙ sym (given-told cs x is-given .latest p (record { low = low; high = high }))
-
-    entry-shows : Flash x → (e : List ℕ) → All (UpAround S) (cond (accepted x e) (ticksOf (decode e) x) [])
-    entry-shows f e = cond-elim (All (UpAround S)) (accepted x e) (λ t. command-shows (decode e) x (given-arrived cs x is-given .reached (f .0) (f .1) .sound .n-high) shows) (λ t. tt)
 
     -- what is asked of a loss
     loses : (c : Command) → Accepts c x → LosesNone c x → LosesNoneAmong S c x
@@ -137,11 +123,7 @@ module _ (S : ℕ → Bool) where
 
   -- along the stretch
   all-show : (cs : List Command) (es : List (List ℕ)) (x : System) → GivenBy cs x → Flash x → Throughout (UpByCommands S) cs es x → All (UpAround S) (befores es x)
-  unfolding befores
-  all-show cs [] x is-given f told = tt
-  all-show cs (e ∷ es) x is-given f told =
-      all-append (UpAround S) (cond (accepted x e) (ticksOf (decode e) x) []) (befores es (after x e)) (entry-shows cs x is-given (told .0) f e)
-      (all-show (withEntry cs x e) es (after x e) (given-after cs x is-given e) (after-flash x e f) (told .1))
+  all-show = stretch-ticks (UpAround S) (UpByCommands S) (λ cs x h f told t. run-shows t x (given-arrived cs x h .reached (f .0) (f .1) .sound .n-high) (shows cs x h told))
 
   all-lose : (cs : List Command) (es : List (List ℕ)) (x : System) → GivenBy cs x → Throughout (UpByCommands S) cs es x → Each LosesNone es x → Each (LosesNoneAmong S) es x
   all-lose cs [] x is-given told none = tt
