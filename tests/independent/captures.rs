@@ -3,13 +3,12 @@
 // that begin with 11 hex, the clock frames, by themselves, the first captures that differ and 'N passed, M failed'.
 
 mod frame;
+mod program;
 mod random;
 
 use frame::{read_clock_frame, read_frame, write_clock_frame, write_frame};
 use random::Random;
 use std::collections::BTreeMap;
-use std::io::Write;
-use std::process::{Command, Stdio};
 
 const MOST_LINES: u64 = 60; // of an ordinary capture
 const MOST_CHARACTERS: u64 = 200_000; // of a very long line, where its bytes are not counted
@@ -544,31 +543,6 @@ fn capture(random: &mut Random, number: u64) -> Vec<u8> {
     capture
 }
 
-/// What PROGRAM prints when it is handed the capture in pieces, and what is wrong with how it ended, if anything.
-fn run(program: &str, capture: &[u8], piece: usize) -> (Vec<u8>, Option<String>) {
-    let child = Command::new(program).stdin(Stdio::piped()).stdout(Stdio::piped()).stderr(Stdio::piped()).spawn();
-    let mut child = child.unwrap_or_else(|error| {
-        eprintln!("captures: {program} does not start: {error}");
-        std::process::exit(2);
-    });
-    let mut input = child.stdin.take().expect("it is piped");
-    let output = std::thread::scope(|scope| {
-        scope.spawn(move || {
-            // Whether the program read everything shows in what it prints.
-            let _ = capture.chunks(piece).try_for_each(|bytes| input.write_all(bytes));
-        });
-        child.wait_with_output().expect("it was started")
-    });
-    let wrong = if !output.status.success() {
-        Some(format!("{program} ends with {}", output.status))
-    } else if !output.stderr.is_empty() {
-        Some(format!("{program} prints on standard error: {}", shown(&output.stderr)))
-    } else {
-        None
-    };
-    (output.stdout, wrong)
-}
-
 /// The bytes as they can be shown, the middle left out where they are many.
 fn shown(bytes: &[u8]) -> String {
     if bytes.len() <= 200 {
@@ -596,7 +570,7 @@ impl Tally {
             *self.kinds.entry(kind).or_default() += 1;
             expected.push(text);
         }
-        let (printed, wrong) = run(program, capture, piece);
+        let (printed, wrong) = program::run("captures", program, capture, piece);
         if wrong.is_none() && printed == expected.concat().as_bytes() {
             self.passed += 1;
             return;

@@ -2,13 +2,12 @@
 // agreement find, and where they end, with what Papers 2, 4 and 6 mean. Prints how often each finding came and where,
 // those that ended at a station without a leader by themselves, the first cases that differ and 'N passed, M failed'.
 
+mod program;
 mod random;
 mod search;
 
 use random::Random;
 use search::{last_line, search, Finding, NOBODY};
-use std::io::Write;
-use std::process::{Command, Stdio};
 
 const PLACES: usize = 8;
 const TRIED: usize = 5; // up to this many stations every leader of a later one is tried, above it two
@@ -157,31 +156,6 @@ fn end(stations: &[Option<u64>], leaders: &[u64]) -> u64 {
     n as u64
 }
 
-/// What PROGRAM prints when it is handed the text, and what is wrong with how it ended, if anything.
-fn run(program: &str, text: &str) -> (String, Option<String>) {
-    let child = Command::new(program).stdin(Stdio::piped()).stdout(Stdio::piped()).stderr(Stdio::piped()).spawn();
-    let mut child = child.unwrap_or_else(|error| {
-        eprintln!("searches: {program} does not start: {error}");
-        std::process::exit(2);
-    });
-    let mut input = child.stdin.take().expect("it is piped");
-    let output = std::thread::scope(|scope| {
-        scope.spawn(move || {
-            // Whether the program read everything shows in what it prints.
-            let _ = input.write_all(text.as_bytes());
-        });
-        child.wait_with_output().expect("it was started")
-    });
-    let wrong = if !output.status.success() {
-        Some(format!("{program} ends with {}", output.status))
-    } else if !output.stderr.is_empty() {
-        Some(format!("{program} prints on standard error: {}", String::from_utf8_lossy(&output.stderr).trim_end()))
-    } else {
-        None
-    };
-    (String::from_utf8_lossy(&output.stdout).into_owned(), wrong)
-}
-
 /// What was compared: tables by finding and by the station where the search ended. Where that one has no leader they
 /// are counted by themselves.
 #[derive(Default)]
@@ -201,7 +175,8 @@ impl Tally {
 
     /// Hands the tables to PROGRAM and compares its answers.
     fn batch(&mut self, program: &str, tables: &[Table], text: &str) {
-        let (printed, wrong) = run(program, text);
+        let (printed, wrong) = program::run("searches", program, text.as_bytes(), text.len().max(1));
+        let printed = String::from_utf8_lossy(&printed).into_owned();
         let which = format!("tables {} to {}", tables[0].number, tables[tables.len() - 1].number);
         let ended_well = wrong.is_none();
         if let Some(said) = wrong {

@@ -6,14 +6,13 @@
 // 'N passed, M failed'.
 
 mod desk;
+mod program;
 mod random;
 mod search;
 
 use desk::{at, command, Desk, Knows, Up, LAST_COUNT, LAST_RANK, LAST_TICK, LONGEST_DELAY};
 use random::Random;
 use std::collections::BTreeSet;
-use std::io::Write;
-use std::process::{Command, Stdio};
 
 const LONGEST_SCHEDULE: usize = 65_536;
 const MOST_SHOWN: u64 = 10;
@@ -311,30 +310,6 @@ fn count(printed: &str, steady: &[u64], leader: u64) -> Result<Count, String> {
         }
     }
     Err("prints no last line".to_string())
-}
-
-/// What PROGRAM prints for a schedule, or what is wrong with how it ended.
-fn rehearse(program: &str, bytes: &[u8]) -> Result<String, String> {
-    let child = Command::new(program).stdin(Stdio::piped()).stdout(Stdio::piped()).stderr(Stdio::piped()).spawn();
-    let mut child = child.unwrap_or_else(|error| {
-        eprintln!("stretches: {program} does not start: {error}");
-        std::process::exit(2);
-    });
-    let mut input = child.stdin.take().expect("it is piped");
-    let output = std::thread::scope(|scope| {
-        scope.spawn(move || {
-            // Whether the program read everything shows in what it prints.
-            let _ = input.write_all(bytes);
-        });
-        child.wait_with_output().expect("it was started")
-    });
-    if !output.status.success() {
-        Err(format!("{program} ends with {}", output.status))
-    } else if !output.stderr.is_empty() {
-        Err(format!("{program} prints on standard error: {}", String::from_utf8_lossy(&output.stderr).trim_end()))
-    } else {
-        Ok(String::from_utf8_lossy(&output.stdout).into_owned())
-    }
 }
 
 /// A fixed case, in hex: which conditions it misses, its ticks, those that are divided, and the bound.
@@ -1084,10 +1059,11 @@ fn wrong(figures: &Figures, row: Option<&Row>) -> Vec<String> {
 
 /// What is wrong with what PROGRAM prints for a case.
 fn against(program: &str, case: &Case, figures: &Figures) -> Vec<String> {
-    let printed = match rehearse(program, &figures.bytes) {
-        Ok(printed) => printed,
-        Err(said) => return vec![said],
-    };
+    let (printed, wrong) = program::run("stretches", program, &figures.bytes, LONGEST_SCHEDULE);
+    if let Some(said) = wrong {
+        return vec![said];
+    }
+    let printed = String::from_utf8_lossy(&printed).into_owned();
     let mut said = Vec::new();
     match count(&printed, &case.steady, figures.leader) {
         Ok(count) if count == figures.count => {}
