@@ -1,0 +1,2 @@
+-- What is claimed of try-outs.
+pub mod Showing
