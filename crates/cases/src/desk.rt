@@ -4,14 +4,16 @@ use crate::commands::command_case;
 use crate::line::front;
 use crate::listings::listing_case;
 use crate::row::Row;
+use crate::tryouts::tryout_case;
 use election::System;
 
 // Runs a case on a system, with the bytes after the schedule.
 fn system_case(r: Row, s: System, bytes: &mut [u8]) {
-    if r.operation == b'T' {
-        listing_case(r.name, s, bytes);
-    } else {
-        command_case(r, s, bytes);
+    let operation = r.operation;
+    match operation {
+        b'T' => listing_case(r.name, s, bytes),
+        b'Y' => tryout_case(r, s, bytes),
+        _ => command_case(r, s, bytes),
     }
 }
 

@@ -12,6 +12,7 @@ mod searches;
 mod stations;
 mod systems;
 mod table;
+mod tryouts;
 
 fn main() {
     let mut space = [0u8; 131072];

@@ -22,6 +22,8 @@ pub struct Row {
     pub digits: usize,
     // where the bytes after the schedule begin
     pub cut: usize,
+    // where the bytes after the command begin
+    pub part: usize,
     // where the bytes that repeat begin
     pub group: usize,
     pub name: Line,
@@ -38,6 +40,7 @@ pub fn blank(count: u64, cut: usize) -> Row {
         at: 0,
         digits: 0,
         cut,
+        part: 0,
         group: 0,
         name: Line::new(),
         count,

@@ -12,6 +12,7 @@
 //   D < schedule > command               hands a command to the system that the schedule leaves
 //   J < schedule > command               the same, and says whether that system is sound
 //   T < schedule > buffer                lists that system into the buffer
+//   Y < schedule > command ; buffer      tries the command out on that system, with the buffer
 //   V n = leaders % flags                searches n stations with these leaders for agreement; those with flag 1 are up
 // Numbers are decimal, and 0 where they are left out. A station is its starts, kept leader, up, leader, timer, slot and wait, then
 // / and the counts that it knows, + and its timeouts, @ and its stamp, the lowest that it knows and its one timeout. Bytes are in hex:
@@ -134,7 +135,7 @@ fn place(at: usize, b: u8) -> usize {
         b'+' => 15,
         b'@' => 23,
         b'*' => 62,
-        b'<' | b'>' | b'(' | b'"' => BYTES,
+        b'<' | b'>' | b';' | b'(' | b'"' => BYTES,
         b':' | b'#' => NAME,
         _ => at,
     }
@@ -158,6 +159,7 @@ fn mark(mut r: Row, b: u8) -> Row {
         }
         b'"' => r.digits = std::num::wrapping_add_usize(r.cut, r.cut),
         b'>' => r.cut = size,
+        b';' => r.part = size,
         _ => {}
     }
     r
@@ -179,7 +181,7 @@ fn run_row(r: Row, bytes: &mut [u8]) {
         b'F' => stamp_write_case(r, bytes),
         b'G' => stamp_read_case(r, bytes),
         b'P' => schedule_case(r, bytes),
-        b'D' | b'J' | b'T' => desk_case(r, bytes),
+        b'D' | b'J' | b'T' | b'Y' => desk_case(r, bytes),
         b'V' => search_case(r),
         _ => station_case(r),
     }
