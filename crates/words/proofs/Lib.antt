@@ -1,0 +1,3 @@
+-- Laws of the words.
+pub mod Doings
+pub mod Room

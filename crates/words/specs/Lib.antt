@@ -1,0 +1,3 @@
+-- Commands and refusals in words.
+pub mod Doings
+pub mod Reasons

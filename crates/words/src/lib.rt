@@ -1,0 +1,2 @@
+// Commands and refusals in words.
+pub mod rules;
