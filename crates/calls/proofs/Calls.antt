@@ -1,7 +1,7 @@
 -- Laws of what the calls of read and write answered.
 use mathlib.Core.Path.{_≡_, refl, sym, ap, subst, _∙_}
 use mathlib.Core.Bool.{Bool, true, false, not, true≢false}
-use Prim.Native.Nat.{ℕ, _<_, _≤_, _^_}
+use Prim.Native.Nat.{ℕ, _+_, _<_, _≤_, _^_}
 use native.Mathlib.Omega.{arith}
 use borrow.Author.Tests.{ltb-true, leb-true, leb-false}
 use borrow.Author.Needs.{sfits-of}
@@ -12,7 +12,7 @@ use mir.Syntax.{w64}
 use mir.Val.{ofZ, toZ}
 use Rattle.io.specs.Counts.{clamped}
 use Rattle.libc.specs.Io.{Moved}
-use Rattle.calls.specs.Calls.{moved, Failed, Taken}
+use Rattle.calls.specs.Calls.{moved, Failed, Whole, Reading, Taken}
 
 -- what is counted is what was moved
 pub counts : (n : ℕ) (z : ℤ) → Moved n z → clamped z n ≡ moved z
@@ -59,3 +59,22 @@ taken-all false put t e = absurd (true≢false e)
 pub taken-some : (b : Bool) (put : ℤ) {done all : ℕ} → Taken b put done all → not b ≡ true → Taken false put done all
 taken-some true put t e = absurd (true≢false (sym e))
 taken-some false put t e = t
+
+-- no more were taken than there are
+pub taken-inside : (b : Bool) (put : ℤ) {done all : ℕ} → Taken b put done all → done ≤ all
+taken-inside true put t = omega arith
+taken-inside false put t = omega arith
+
+-- taken after others
+pub taken-after : (b : Bool) (put : ℤ) (first done all : ℕ) → Taken b put done all → Taken b put (first + done) (first + all)
+taken-after true put first done all t = omega arith
+taken-after false put first done all t = (t .0, omega arith)
+
+-- what a test of whether no read failed tells
+pub read-whole : (b : Bool) {got : ℤ} {size room : ℕ} → Reading b got size room → not b ≡ false → Whole got size room
+read-whole true r e = r
+read-whole false r e = absurd (true≢false e)
+
+pub read-failed : (b : Bool) {got : ℤ} (size room : ℕ) → Reading b got size room → not b ≡ true → Failed got
+read-failed true size room r e = absurd (true≢false (sym e))
+read-failed false size room r e = r

@@ -1,4 +1,5 @@
--- What the calls of read and write answered: `put` is what the last write answered, `done` how many bytes were taken so far of what is to be printed.
+-- What the calls of read and write answered: `got` is what the last read answered, `size` how many bytes were read so far, `room` how many
+-- there is room for; `put` is what the last write answered, and `done` how many bytes were taken so far of what is to be printed.
 use mathlib.Core.Path.{_≡_}
 use mathlib.Core.Bool.{Bool, true, false}
 use Prim.Native.Nat.{ℕ, _<_}
@@ -12,6 +13,15 @@ Failed answer = answer ≡ negsuc 0
 abbrev pub moved : ℤ → ℕ
 moved (pos k) = k
 moved (negsuc k) = 0
+
+-- all was read that matters: the buffer is full, or the last read found the end of the input
+abbrev pub Whole : ℤ → ℕ → ℕ → Type 0
+Whole got size room = size < room → got ≡ pos 0
+
+-- reading ends so, or at a read that failed
+abbrev pub Reading : Bool → ℤ → ℕ → ℕ → Type 0
+Reading true got size room = Whole got size room
+Reading false got size room = Failed got
 
 -- all bytes up to a place were taken, or the last write took none and some are left
 abbrev pub Taken : Bool → ℤ → ℕ → ℕ → Type 0

@@ -1,1 +1,2 @@
-// What calls of the system answered: definitions and laws alone.
+// Calls of the system until all is done, and what they answered.
+pub mod rules;

@@ -1,3 +1,2 @@
--- What the program reads and prints, call by call and in all.
-pub mod Moving
+-- What the program prints.
 pub mod Printed

@@ -1,31 +1,22 @@
--- What is read and printed, call by call: `got` is what the last read answered, `size` how many bytes were read so far, `room` how many
--- there is room for; `put` is what the last write answered, and `done` how many bytes were taken so far of what is to be printed.
+-- What is read and printed: `got` is what the last read answered, `size` how many bytes were read, `room` how many there is room for;
+-- `put` is what the last write answered, and `done` how many bytes were taken so far of what is to be printed.
 use mathlib.Core.Path.{_≡_}
 use mathlib.Core.List.{List}
-use mathlib.Core.Bool.{Bool, true, false}
+use mathlib.Core.Bool.{true, false}
 use Prim.Native.Nat.{ℕ, _<_, _≤_}
 use lib.IntN.{ℤ, pos}
 use lib.ListN.{length, take, drop}
-use Rattle.calls.specs.Calls.{Failed, Taken}
+use Rattle.calls.specs.Calls.{Failed, Whole, Taken}
 use Rattle.election.specs.Listing.{output}
 use Rattle.election.specs.Schedule.{mostBytes}
 use Rattle.rehearse.specs.declared.Ran.{Ran}
 use Rattle.rehearse.specs.declared.Ran.the-variants.{Printed, NotRead, NotPrinted}
 
--- all was read that matters: the buffer is full, or the last read found the end of the input
-abbrev pub Whole : ℤ → ℕ → ℕ → Type 0
-Whole got size room = size < room → got ≡ pos 0
-
--- then the rest of what was given, if there is any, changes nothing of what is to be printed
+-- where all was read that matters, the rest of what was given, if there is any, changes nothing of what is to be printed
 abbrev pub Enough : Type 0
 Enough =
     (given : List ℕ) (got : ℤ) (size room : ℕ) → mostBytes < room → Whole got size room → (got ≡ pos 0 → length given ≤ size)
     → output (take size given) ≡ output given
-
--- reading ends so, or at a read that failed
-abbrev pub Reading : Bool → ℤ → ℕ → ℕ → Type 0
-Reading true got size room = Whole got size room
-Reading false got size room = Failed got
 
 -- the text comes next in what is to be printed for the schedule
 abbrev pub Next : List ℕ → ℕ → List ℕ → Type 0

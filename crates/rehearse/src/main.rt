@@ -4,11 +4,10 @@ ghost use Prim.Native.Nat.{_<_};
 ghost use lib.ListN.{length};
 ghost use Rattle.election.specs.Schedule.{mostBytes};
 ghost use Rattle.rehearse.specs.Moves.{Ended};
-use crate::input::read_schedule;
 use crate::output::rehearse;
+use calls::rules::read_whole;
 use libc::STDERR_FILENO;
 
-mod input;
 mod output;
 mod stop;
 
@@ -19,7 +18,8 @@ pub enum Ran {
     NotPrinted,
 }
 
-// The program but for its buffer and its messages: reads a schedule and prints what it gives.
+// The program but for its buffer and its messages: reads a schedule and prints what it gives. The buffer has room for a byte more
+// than a schedule may have, so a longer one is seen to be too long. Nothing else in the program reads.
 fn run(
     space: &mut [u8],
     size: &mut usize,
@@ -32,7 +32,7 @@ fn run(
     requires { ⌜ now done ≡ 0 ⌝ }
     ensures { λ r. ⌜ Ended r (now (got .exit)) (now (size .exit)) (now (space .exit)) (now (put .exit)) (now (done .exit)) ⌝ }
 {
-    if !read_schedule(space, size, got) {
+    if !read_whole(space, size, got) {
         return Ran::NotRead;
     }
     let n = *size;

@@ -2,45 +2,28 @@
 ghost use mathlib.Core.Path.{_≡_};
 ghost use Prim.Native.Nat.{_+_, _<_, _^_};
 ghost use lib.ListN.{length};
-ghost use Rattle.libc.specs.Io.{Moved};
 ghost use Rattle.election.specs.Listing.{output};
 ghost use Rattle.rehearse.specs.Moves.{Next};
-ghost use Rattle.calls.specs.Calls.{moved, Taken};
+ghost use Rattle.calls.specs.Calls.{Taken};
 use crate::stop::is_full;
 use crate::stop::refusal_of;
+use calls::rules::write_text;
 use layout::rules::fresh;
 use libc::STDOUT_FILENO;
 use listing::rules::ending::write_end;
 use simulator::rules::go_on;
 
-// One write to standard output, of what comes next there for the schedule: keeps what the system answered, and counts the bytes
-// that it took. Nothing else in the program writes there.
-fn write_next(bytes: &[u8], text: &[u8], done: &mut usize, put: &mut isize)
-    requires { ⌜ Next (now bytes) (now done) (now text) ⌝ }
-    requires { ⌜ now done + length (now text) < 2 ^ 64 ⌝ }
-    ensures { λ _. ⌜ Moved (length (now (text .entry))) (now (put .exit)) ⌝ }
-    ensures { λ _. ⌜ now (done .exit) ≡ now (done .entry) + moved (now (put .exit)) ⌝ }
-{
-    *put = libc::write(STDOUT_FILENO, text);
-    *done += io::count(*put, text);
-}
-
-// Prints what comes next, in as many writes as it takes; answers whether all of it was taken.
+// Prints what comes next for the schedule, in as many writes as it takes; answers whether all of it was taken. Nothing else in the
+// program writes to standard output.
 fn print(bytes: &[u8], text: &[u8], done: &mut usize, put: &mut isize) -> bool
     requires { ⌜ Next (now bytes) (now done) (now text) ⌝ }
     requires { ⌜ now done + length (now text) < 2 ^ 64 ⌝ }
     ensures { λ r. ⌜ Taken r (now (put .exit)) (now (done .exit)) (now (done .entry) + length (now (text .entry))) ⌝ }
 {
-    let first = *done;
     let mut at = 0;
-    while at < text.len() {
-        write_next(bytes, &text[at..], done, put);
-        if *put <= 0 {
-            return false;
-        }
-        at = *done - first;
-    }
-    true
+    let all = write_text(STDOUT_FILENO, text, &mut at, put);
+    *done += at;
+    all
 }
 
 // Prints what a schedule gives, from the fresh system; answers whether all of it was taken.

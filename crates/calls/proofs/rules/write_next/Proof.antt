@@ -1,4 +1,4 @@
--- The function output::write_next meets its contract.
+-- The function rules::write_next meets its contract.
 use mathlib.Core.Path.{_≡_, ap, subst, _∙_}
 use Prim.Native.Nat.{_+_, _-_}
 use native.Mathlib.Omega.{arith}
@@ -9,13 +9,13 @@ use mir.Syntax.{w64}
 use mir.Val.{ofZ, toZ}
 use Rattle.io.specs.Counts.{clamped}
 use Rattle.libc.specs.Io.{Moved}
 use Rattle.calls.proofs.Calls.{counts, back}
-use Rattle.frames.proofs.output.write_next.Statement.{statement}
-use Rattle.frames.proofs.output.write_next.Tie as tie
+use Rattle.calls.proofs.rules.write_next.Statement.{statement}
+use Rattle.calls.proofs.rules.write_next.Tie as tie
 
 returns : tie.Need-returns
 returns c =
-    let start = c .before .before .before .before .before .before .before .before in
+    let start = c .before .before .before .before .before .before .before in
     let at = start .args .done .now in
     let text = start .args .text .now in
     let wrote = c .before .before .before .write in

@@ -1,0 +1,63 @@
+// Reading standard input whole, and writing a text whole, in as many calls of the system as it takes.
+ghost use mathlib.Core.Path.{_≡_};
+ghost use Prim.Native.Nat.{_+_, _-_, _≤_};
+ghost use lib.ListN.{length, take};
+ghost use Rattle.libc.specs.Io.{Moved};
+ghost use Rattle.calls.specs.Calls.{moved, Reading, Taken};
+use libc::STDIN_FILENO;
+
+// One read from standard input, to behind the bytes that are in the buffer: keeps what the system answered, and counts the bytes
+// that came.
+fn read_next(buffer: &mut [u8], size: &mut usize, got: &mut isize)
+    requires { ⌜ now size ≤ length (now buffer) ⌝ }
+    ensures { λ _. ⌜ Moved (length (now (buffer .entry)) - now (size .entry)) (now (got .exit)) ⌝ }
+    ensures { λ _. ⌜ now (size .exit) ≡ now (size .entry) + moved (now (got .exit)) ⌝ }
+    ensures { λ _. ⌜ take (now (size .entry)) (now (buffer .exit)) ≡ take (now (size .entry)) (now (buffer .entry)) ⌝ }
+{
+    let at = *size;
+    *got = libc::read(STDIN_FILENO, &mut buffer[at..]);
+    *size = at + io::count(*got, &buffer[at..]);
+}
+
+// Reads until the buffer is full, the input ends or a read fails; answers whether none failed.
+pub fn read_whole(buffer: &mut [u8], size: &mut usize, got: &mut isize) -> bool
+    requires { ⌜ now size ≡ 0 ⌝ }
+    ensures { λ r. ⌜ now (size .exit) ≤ length (now (buffer .exit)) ⌝ }
+    ensures { λ r. ⌜ Reading r (now (got .exit)) (now (size .exit)) (length (now (buffer .exit))) ⌝ }
+{
+    while *size < buffer.len() {
+        read_next(buffer, size, got);
+        if *got < 0 {
+            return false;
+        }
+        if *got == 0 {
+            return true;
+        }
+    }
+    true
+}
+
+// One write of a text to a descriptor, from a place on: keeps what the system answered, and counts the bytes that it took.
+fn write_next(fd: i32, text: &[u8], done: &mut usize, put: &mut isize)
+    requires { ⌜ now done ≤ length (now text) ⌝ }
+    ensures { λ _. ⌜ Moved (length (now (text .entry)) - now (done .entry)) (now (put .exit)) ⌝ }
+    ensures { λ _. ⌜ now (done .exit) ≡ now (done .entry) + moved (now (put .exit)) ⌝ }
+{
+    let at = *done;
+    *put = libc::write(fd, &text[at..]);
+    *done = at + io::count(*put, &text[at..]);
+}
+
+// Writes a text to a descriptor, in as many writes as it takes; answers whether all of it was taken.
+pub fn write_text(fd: i32, text: &[u8], done: &mut usize, put: &mut isize) -> bool
+    ensures { λ r. ⌜ Taken r (now (put .exit)) (now (done .exit)) (length (now (text .entry))) ⌝ }
+{
+    *done = 0;
+    while *done < text.len() {
+        write_next(fd, text, done, put);
+        if *put <= 0 {
+            return false;
+        }
+    }
+    true
+}
