@@ -1,40 +1,21 @@
 // Printing what some bytes of the text give.
 ghost use mathlib.Core.Path.{_≡_};
-ghost use Prim.Native.Nat.{_+_, _*_, _-_, _^_, _<_, _≤_};
+ghost use Prim.Native.Nat.{_+_, _*_, _^_, _<_, _≤_};
 ghost use lib.ListN.{length};
-ghost use Rattle.libc.specs.Io.{Moved};
-ghost use Rattle.calls.specs.Calls.{moved, Taken};
+ghost use Rattle.calls.specs.Calls.{Taken};
 ghost use Rattle.frames.specs.Line.{Held, longestLine, after, printed};
 use crate::line::Line;
 use crate::told::feed;
+use calls::rules::write_text;
 use libc::STDOUT_FILENO;
 
-// One write to standard output, of what is printed for the bytes, from a place on: keeps what the system answered, and counts the bytes
-// that it took. Nothing else in the program writes there.
-fn write_next(line: Line, bytes: &[u8], text: &[u8], done: &mut usize, put: &mut isize)
-    requires { ⌜ now text ≡ printed line (now bytes) ⌝ }
-    requires { ⌜ now done ≤ length (now text) ⌝ }
-    ensures { λ _. ⌜ Moved (length (now (text .entry)) - now (done .entry)) (now (put .exit)) ⌝ }
-    ensures { λ _. ⌜ now (done .exit) ≡ now (done .entry) + moved (now (put .exit)) ⌝ }
-{
-    let at = *done;
-    *put = libc::write(STDOUT_FILENO, &text[at..]);
-    *done = at + io::count(*put, &text[at..]);
-}
-
-// Prints what is printed for the bytes, in as many writes as it takes; answers whether all of it was taken.
+// Prints what is printed for the bytes, in as many writes as it takes; answers whether all of it was taken. Nothing else in the
+// program writes to standard output.
 fn print(line: Line, bytes: &[u8], text: &[u8], done: &mut usize, put: &mut isize) -> bool
     requires { ⌜ now text ≡ printed line (now bytes) ⌝ }
     ensures { λ r. ⌜ Taken r (now (put .exit)) (now (done .exit)) (length (printed line (now (bytes .entry)))) ⌝ }
 {
-    *done = 0;
-    while *done < text.len() {
-        write_next(line, bytes, text, done, put);
-        if *put <= 0 {
-            return false;
-        }
-    }
-    true
+    write_text(STDOUT_FILENO, text, done, put)
 }
 
 // What a part of the text leaves: the line, and whether all was printed.
