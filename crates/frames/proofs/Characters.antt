@@ -7,7 +7,7 @@ use lib.ListN.{set}
 use lib.Dec.{ltb, eqb}
 use borrow.Author.Tests.{ltb-true, eqb-false, not-true}
 use Rattle.lists.proofs.Bools.{three}
-use Rattle.frames.specs.Hex.{isBlank, digitOf, isDigit}
+use Rattle.text.specs.Hex.{isBlank, digitOf, isDigit}
 use Rattle.frames.specs.Line.{kept, read}
 use Rattle.frames.specs.declared.line.Line.{Line}
 

@@ -9,7 +9,7 @@ use Rattle.frame.specs.Frame.{isLength, stationsIn, senderIn, countsIn}
 use Rattle.frame.specs.Reading.{countsOf, reading}
 use Rattle.frame.specs.Stamp.{stampReading}
 use Rattle.frames.specs.Explained.{ownCount, reason, counted, received, answered, stampReason, stamped, stampAnswered, frameText, found, lineText, linesFrom, explained, output}
-use Rattle.frames.specs.Hex.{isBlank, digitOf, spelled}
+use Rattle.text.specs.Hex.{isBlank, digitOf, spelled}
 use Rattle.frames.specs.Rows.{Kinds}
 
 pub kinds : Kinds

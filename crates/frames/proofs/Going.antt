@@ -14,7 +14,7 @@ use Rattle.lists.proofs.Bools.{three, cond-elim}
 use Rattle.text.specs.Wrote.{Wrote}
 use Rattle.text.proofs.Parts.{wrote-part, wrote-length}
 use Rattle.frames.specs.Claims.{Parts, ended}
-use Rattle.frames.specs.Hex.{digitOf, isDigit}
+use Rattle.text.specs.Hex.{digitOf, isDigit}
 use Rattle.frames.specs.Line.{Held, kept, begin, read, longestLine, stepped, toldAt, after, printed}
 use Rattle.frames.specs.declared.line.Line.{Line}
 use Rattle.frames.proofs.Room.{line-room}

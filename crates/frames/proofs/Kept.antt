@@ -19,7 +19,7 @@ use Rattle.frame.specs.Stamp.{stampSize, stampReading}
 use Rattle.frame.proofs.Lengths.{lengths}
 use Rattle.frame.proofs.Ranges.{stations-range}
 use Rattle.frames.specs.Explained.{ownCount, frameText, found, lineText}
-use Rattle.frames.specs.Hex.{Spelled, isBlank, digitOf, isDigit, noHex, withFirst, spelled}
+use Rattle.text.specs.Hex.{Spelled, isBlank, digitOf, isDigit, noHex, withFirst, spelled}
 use Rattle.frames.specs.Line.{kept, begin, read, told, spells}
 use Rattle.frames.specs.declared.line.Line.{Line}
 use Rattle.frames.proofs.Characters.{More}

@@ -7,8 +7,8 @@ use native.Mathlib.Decide.{decLt}
 use native.Mathlib.Omega.{arith}
 use lib.Dec.{eqb}
 use borrow.Author.Tests.{ltb-true, lt-ltb, le-ltb, ne-eqb, le-leb, lt-leb}
-use Rattle.frames.specs.Claims.{digit, hexOf, HexRestores}
-use Rattle.frames.specs.Hex.{Spelled, isBlank, digitOf, isDigit, noHex, withFirst, spelled}
+use Rattle.text.specs.Hex.{Spelled, isBlank, digitOf, isDigit, noHex, withFirst, spelled, digit, hexOf}
+use Rattle.frames.specs.Claims.{HexRestores}
 
 -- what the rest of a line spells, after the digit h, 16 for none
 unfoldable pub spelledFrom : ℕ → List ℕ → Spelled

@@ -6,7 +6,7 @@ use Prim.Native.Nat.{ℕ, _+_}
 use lib.Dec.{eqb}
 use Rattle.frames.specs.Claims.{ended, Whole}
 use Rattle.frames.specs.Explained.{lineText, linesFrom, explained, output}
-use Rattle.frames.specs.Hex.{spelled}
+use Rattle.text.specs.Hex.{spelled}
 use Rattle.frames.specs.Line.{begin, read, told, stepped, toldAt, after, printed}
 use Rattle.frames.specs.declared.line.Line.{Line}
 use Rattle.frames.proofs.Kept.{readAll, whole-line}

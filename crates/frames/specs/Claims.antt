@@ -3,16 +3,15 @@ use mathlib.Core.Path.{_≡_}
 use mathlib.Core.Logic.{_↔_, _⊎_}
 use mathlib.Core.List.{List, [], _∷_, _++_}
 use mathlib.Core.Bool.{true, cond}
-use Prim.Native.Nat.{ℕ, _+_, _/_, _%_}
+use Prim.Native.Nat.{ℕ}
 use lib.ListN.{take}
-use lib.Dec.{ltb}
+use Rattle.text.specs.Hex.{spelled, hexOf}
 use Rattle.text.specs.Quoted.{text}
 use Rattle.frame.specs.Claims.{Octets, WellFormed, oldFrame}
 use Rattle.frame.specs.Reading.{reading}
 use Rattle.frame.specs.Stamp.{stampReading}
 use Rattle.frame.specs.StampClaims.{StampFormed}
 use Rattle.frames.specs.Explained.{ownCount, received, stamped, isStamp, frameText, output}
-use Rattle.frames.specs.Hex.{spelled}
 use Rattle.frames.specs.Line.{begin, after, printed}
 use Rattle.frames.specs.declared.line.Line.{Line}
 
@@ -57,15 +56,7 @@ NeverStamp = (bytes : List ℕ) → isStamp bytes ≡ true → (stampReading 8 b
 abbrev pub OldTold : Type 0
 OldTold = (sender : ℕ) (counts : List ℕ) → reading (ownCount (oldFrame sender counts)) (oldFrame sender counts) .refusal ≡ 17
 
--- bytes as hex text, in lower case
-unfoldable pub digit : ℕ → ℕ
-digit d = cond (ltb d 10) (48 + d) (87 + d)
-
-unfoldable pub hexOf : List ℕ → List ℕ
-hexOf [] = []
-hexOf (b ∷ bytes) = digit (b / 16) ∷ digit (b % 16) ∷ hexOf bytes
-
--- which spells them
+-- bytes as hex text spell them
 abbrev pub HexRestores : Type 0
 HexRestores = (bytes : List ℕ) → Octets bytes → spelled (hexOf bytes) ≡ record { hex = true; bytes = bytes }
 

@@ -9,7 +9,7 @@ use Rattle.text.specs.Quoted.{text}
 use Rattle.frame.specs.Frame.{isLength}
 use Rattle.frame.specs.Reading.{Reading, writtenCount, reading}
 use Rattle.frame.specs.Stamp.{StampReading, stampMark, stampReading}
-use Rattle.frames.specs.Hex.{Spelled, spelled}
+use Rattle.text.specs.Hex.{Spelled, spelled}
 
 -- n as the frame has it. What has the length of no frame is read as for two stations; its length is wrong for any n.
 unfoldable pub ownCount : List ℕ → ℕ

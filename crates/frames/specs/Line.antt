@@ -5,7 +5,7 @@ use Prim.Native.Nat.{ℕ, _+_, _*_, _≤_}
 use lib.ListN.{take, set, replicate}
 use lib.Dec.{ltb, eqb}
 use Rattle.frame.specs.Frame.{frameSize}
-use Rattle.frames.specs.Hex.{Spelled, isBlank, digitOf, isDigit}
+use Rattle.text.specs.Hex.{Spelled, isBlank, digitOf, isDigit}
 use Rattle.frames.specs.Explained.{lineText}
 use Rattle.frames.specs.declared.line.Line.{Line}
 

@@ -1,10 +1,11 @@
 // A line as far as it is read, character by character.
 ghost use mathlib.Core.Path.{_≡_};
 ghost use mathlib.Core.Bool.{cond};
-ghost use Rattle.frames.specs.Hex.{isBlank, digitOf};
 ghost use Rattle.frames.specs.Line.{Held};
 ghost use Rattle.frames.specs.Line.{begin as Line·begin};
 ghost use Rattle.frames.specs.Line.{read as Line·read};
+use text::hex::digit_of;
+use text::hex::is_blank;
 
 // How many bytes of a line are kept: one more than the longest frame has.
 pub const KEPT: usize = 20;
@@ -37,29 +38,6 @@ pub fn begin(k: u64) -> Line
         size: 0,
         bytes: [0u8; KEPT],
     }
-}
-
-// Whether a character is a space, a tab or a carriage return.
-fn is_blank(c: u8) -> bool
-    ensures { λ r. ⌜ r ≡ isBlank c ⌝ }
-{
-    (c == 32) | (c == 9) | (c == 13)
-}
-
-// The value of a hex digit, in either case; 16 for any other character.
-fn digit_of(c: u8) -> u8
-    ensures { λ r. ⌜ r ≡ digitOf c ⌝ }
-{
-    if (48 <= c) & (c <= 57) {
-        return c - 48;
-    }
-    if (65 <= c) & (c <= 70) {
-        return c - 55;
-    }
-    if (97 <= c) & (c <= 102) {
-        return c - 87;
-    }
-    16
 }
 
 // A digit if it is the first of a byte, 16 if not.

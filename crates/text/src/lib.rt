@@ -1,2 +1,3 @@
-// Text in a buffer: words, decimal numbers, and counts with commas between them.
+// Text in a buffer: words, decimal numbers, counts with commas between them, and hex.
+pub mod hex;
 pub mod rules;

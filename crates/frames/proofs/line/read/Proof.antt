@@ -4,7 +4,7 @@ use mathlib.Core.Bool.{true, false}
 use Prim.Native.Nat.{_<_}
 use native.Mathlib.Omega.{arith}
 use borrow.Author.Needs.{needs}
-use Rattle.frames.specs.Hex.{digitOf}
+use Rattle.text.specs.Hex.{digitOf}
 use Rattle.frames.specs.Line.{kept}
 use Rattle.frames.proofs.Characters.{More, more-is, read-more, read-else}
 use Rattle.frames.proofs.line.read.Statement.{statement}

@@ -1,7 +1,7 @@
 -- Hex text: two digits for each byte, which stand together, and any blanks around bytes.
 use mathlib.Core.List.{List, [], _∷_}
 use mathlib.Core.Bool.{Bool, true, false, cond, _&&_, _||_}
-use Prim.Native.Nat.{ℕ, _+_, _*_, _-_}
+use Prim.Native.Nat.{ℕ, _+_, _*_, _-_, _/_, _%_}
 use lib.Dec.{leb, ltb, eqb}
 
 -- a space, a tab or a carriage return
@@ -36,3 +36,11 @@ spelled (c ∷ []) = cond (isBlank c) (record { hex = true; bytes = [] }) noHex
 spelled (c ∷ d ∷ line) =
     let rest : Spelled = spelled line in
     cond (isBlank c) (spelled (d ∷ line)) (cond (isDigit c && isDigit d) (withFirst (16 * digitOf c + digitOf d) rest) noHex)
+
+-- bytes as hex text, in lower case
+unfoldable pub digit : ℕ → ℕ
+digit d = cond (ltb d 10) (48 + d) (87 + d)
+
+unfoldable pub hexOf : List ℕ → List ℕ
+hexOf [] = []
+hexOf (b ∷ bytes) = digit (b / 16) ∷ digit (b % 16) ∷ hexOf bytes
