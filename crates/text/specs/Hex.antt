@@ -44,3 +44,8 @@ digit d = cond (ltb d 10) (48 + d) (87 + d)
 unfoldable pub hexOf : List ℕ → List ℕ
 hexOf [] = []
 hexOf (b ∷ bytes) = digit (b / 16) ∷ digit (b % 16) ∷ hexOf bytes
+
+-- and with a space before each
+unfoldable pub spaced : List ℕ → List ℕ
+spaced [] = []
+spaced (b ∷ bytes) = 32 ∷ digit (b / 16) ∷ digit (b % 16) ∷ spaced bytes
