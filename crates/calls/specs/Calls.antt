@@ -1,5 +1,5 @@
 -- What the calls of read and write answered: `got` is what the last read answered, `size` how many bytes were read so far, `room` how many
--- there is room for; `put` is what the last write answered, and `done` how many bytes were taken so far of what is to be printed.
+-- there is room for; `put` is what the last write answered, and `done` how many bytes were taken so far of what is to be written.
 use mathlib.Core.Path.{_≡_}
 use mathlib.Core.Bool.{Bool, true, false}
 use Prim.Native.Nat.{ℕ, _<_}
