@@ -57,7 +57,7 @@ pub enum Carries {
 }
 
 pub struct Desk {
-    heads: Heads,
+    pub heads: Heads,
     pub n: u64,
     pub eta: u64,
     pub tick: u64,
