@@ -1,7 +1,7 @@
 // Reading standard input whole, and writing a text whole, in as many calls of the system as it takes.
 ghost use mathlib.Core.Path.{_≡_};
 ghost use Prim.Native.Nat.{_+_, _-_, _≤_};
-ghost use lib.ListN.{length, take};
+ghost use lib.ListN.{drop, length, take};
 ghost use Rattle.libc.specs.Io.{Moved};
 ghost use Rattle.calls.specs.Calls.{moved, Reading, Taken};
 use libc::STDIN_FILENO;
@@ -37,15 +37,14 @@ pub fn read_whole(buffer: &mut [u8], size: &mut usize, got: &mut isize) -> bool
     true
 }
 
-// One write of a text to a descriptor, from a place on: keeps what the system answered, and counts the bytes that it took.
-fn write_next(fd: i32, text: &[u8], done: &mut usize, put: &mut isize)
-    requires { ⌜ now done ≤ length (now text) ⌝ }
+// One write, to a descriptor, of what is left of a text: keeps what the system answered, and counts the bytes that it took.
+fn write_next(fd: i32, text: &[u8], rest: &[u8], done: &mut usize, put: &mut isize)
+    requires { ⌜ now rest ≡ drop (now done) (now text) ⌝ }
     ensures { λ _. ⌜ Moved (length (now (text .entry)) - now (done .entry)) (now (put .exit)) ⌝ }
     ensures { λ _. ⌜ now (done .exit) ≡ now (done .entry) + moved (now (put .exit)) ⌝ }
 {
-    let at = *done;
-    *put = libc::write(fd, &text[at..]);
-    *done = at + io::count(*put, &text[at..]);
+    *put = libc::write(fd, rest);
+    *done += io::count(*put, rest);
 }
 
 // Writes a text to a descriptor, in as many writes as it takes; answers whether all of it was taken.
@@ -54,7 +53,8 @@ pub fn write_text(fd: i32, text: &[u8], done: &mut usize, put: &mut isize) -> bo
 {
     *done = 0;
     while *done < text.len() {
-        write_next(fd, text, done, put);
+        let at = *done;
+        write_next(fd, text, &text[at..], done, put);
         if *put <= 0 {
             return false;
         }
