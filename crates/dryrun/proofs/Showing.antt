@@ -2,12 +2,16 @@
 use mathlib.Core.Path.{_≡_, refl, sym, ap, subst, _∙_}
 use mathlib.Core.Logic.{_≢_, _⊎_}
 use mathlib.Core.Logic._⊎_.{inl, inr}
-use mathlib.Core.List.{List}
-use mathlib.Core.Bool.{Bool, true, false, true≢false}
+use mathlib.Core.List.{List, [], _++_}
+use mathlib.Core.Bool.{Bool, true, false, cond, true≢false}
 use Prim.Native.Nat.{ℕ, _<_, _≤_}
-use lib.ListN.{length}
-use borrow.Author.Tests.{eq-eqb, ne-eqb}
+use native.Mathlib.Omega.{arith}
+use lib.Dec.{eqb}
+use lib.ListN.{length, take, drop, length-append}
+use borrow.Author.Tests.{eq-eqb, ne-eqb, eqb-true}
 use Rattle.lists.specs.Entries.{over}
+use Rattle.lists.proofs.Bools.{cond-elim}
+use Rattle.lists.proofs.Entries.{take-over}
 use Rattle.lists.proofs.First.{passed}
 use Rattle.election.specs.Commands.{said as saidCommand}
 use Rattle.election.specs.Commands.{refusalOf as numberIn}
@@ -18,16 +22,19 @@ use Rattle.election.specs.declared.Answer.{Answer}
 use Rattle.election.specs.declared.Answer.the-variants as Answers
 use Rattle.election.specs.declared.Commanded.{Commanded}
 use Rattle.election.specs.declared.Refusal.{Refusal}
+use Rattle.election.specs.declared.Refusal.the-variants.{NotSetUp}
 use Rattle.election.specs.Sound.{sound}
 use Rattle.election.specs.declared.System.{System}
 use Rattle.election.proofs.Accepting.{Accepts, accepts}
 use Rattle.election.proofs.Counts.{ready-after}
 use Rattle.election.proofs.InitialSound.{initial-ready}
 use Rattle.election.proofs.KeepsSound.{refusal-tests, keeps-sound, refused-changes-nothing}
+use Rattle.election.proofs.Soundness.{sound-of}
 use Rattle.listing.proofs.Answers.{unsound, not-set-up, short, done}
+use Rattle.listing.proofs.Room.{listing-room}
 use Rattle.decision.proofs.Bytes.{unsound as unsound-command}
 use Rattle.decision.proofs.Decisions.{numbered}
-use Rattle.dryrun.specs.Claims.{SameSystem, AcceptedShows, CommandFirst, RefusedShows, ElseSixteen, NothingWritten}
+use Rattle.dryrun.specs.Claims.{SameSystem, AcceptedShows, CommandFirst, RefusedShows, ElseSixteen, NothingWritten, WithRoom}
 use Rattle.dryrun.specs.DryRun.{firstOf, refusalOf, said, tried}
 use Rattle.dryrun.specs.declared.Attempt.{Attempt}
 
@@ -133,3 +140,39 @@ nothing-written s bytes buffer (inr (inl e)) =
     let same : command s bytes .system ≡ s = ap (λ (r : Result). r .system) (sym (unsound-command s bytes e)) in
     nothing (command s bytes .system) buffer (inr (inl (ap sound same ∙ e)))
 nothing-written s bytes buffer (inr (inr r)) = nothing (command s bytes .system) buffer (inr (inr r))
+
+-- what is written is within the buffer
+pub written-inside : (s : System) (bytes buffer : List ℕ) → tried s bytes buffer .written ≤ length (tried s bytes buffer .buffer)
+unfolding tried listed over
+written-inside s bytes buffer =
+    let l : List ℕ = listing (command s bytes .system) in
+    go (eqb (listed (command s bytes .system) buffer .refusal) 0) l
+  where
+    go : (b : Bool) (l : List ℕ) → cond b (length l) 0 ≤ length (cond b (l ++ drop (length l) buffer) buffer)
+    go true l = omega (arith, length-append l (drop (length l) buffer))
+    go false l = omega arith
+
+-- the command's refusal, where the listing has none
+first-none : (r : ℕ) → firstOf r 0 ≡ r
+first-none r = cond-elim (λ (x : ℕ). x ≡ r) (eqb r 0) (λ e. sym (eqb-true r 0 e)) (λ e. refl)
+
+pub with-room : WithRoom
+unfolding tried
+with-room s bytes buffer e room = go (x .ready) refl
+  where
+    x : System
+    x = command s bytes .system
+
+    ok : sound x ≡ true
+    ok = keeps-sound s bytes e
+
+    go : (r : Bool) → x .ready ≡ r
+        → (firstOf (command s bytes .refusal) (listed x buffer .refusal) ≡ command s bytes .refusal)
+        × (take (listed x buffer .written) (listed x buffer .buffer) ≡ cond (x .ready) (listing x) [])
+    go true r =
+        let fits : length (listing x) ≤ length buffer = omega (arith, room, listing-room x (sound-of x ok r .n-high)) in
+        rw (shows x buffer ok r fits, r) (first-none (command s bytes .refusal), take-over (length (listing x)) (listing x) buffer refl)
+    go false r =
+        let ne : command s bytes .refusal ≢ 0 = λ t. true≢false (sym (after-set-up s bytes t) ∙ ap (λ (y : System). y .ready) (sym (performed s bytes t)) ∙ r) in
+        let l : saidListing (Answers.Refused NotSetUp) buffer ≡ listed x buffer = not-set-up x buffer ok r in
+        rw (← l, r, ne-eqb (command s bytes .refusal) 0 ne) (refl, refl)

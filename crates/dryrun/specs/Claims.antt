@@ -1,13 +1,13 @@
 -- What is claimed of every try-out, sentence by sentence; the theorems are in proofs/.
 use mathlib.Core.Path.{_≡_}
 use mathlib.Core.Logic.{_≢_, _⊎_}
-use mathlib.Core.List.{List}
-use mathlib.Core.Bool.{true, false}
+use mathlib.Core.List.{List, []}
+use mathlib.Core.Bool.{true, false, cond}
 use Prim.Native.Nat.{ℕ, _<_, _≤_}
-use lib.ListN.{length}
+use lib.ListN.{length, take}
 use Rattle.lists.specs.Entries.{over}
 use Rattle.election.specs.Commands.{decode, perform, command}
-use Rattle.election.specs.Listing.{listing, listed}
+use Rattle.election.specs.Listing.{listing, longestListing, listed}
 use Rattle.election.specs.Sound.{sound}
 use Rattle.election.specs.declared.System.{System}
 use Rattle.dryrun.specs.DryRun.{Tried, tried}
@@ -53,3 +53,11 @@ NothingWritten =
     (s : System) (bytes buffer : List ℕ)
     → (length buffer < length (listing (command s bytes .system))) ⊎ (sound s ≡ false) ⊎ (command s bytes .system .ready ≡ false)
     → ShowsNothing buffer (tried s bytes buffer)
+
+-- with room for every listing the answer is the command's own, and what is written is the listing after it, if there is one
+abbrev pub WithRoom : Type 0
+WithRoom =
+    (s : System) (bytes buffer : List ℕ) → sound s ≡ true → longestListing ≤ length buffer
+    → (tried s bytes buffer .refusal ≡ command s bytes .refusal)
+    × (take (tried s bytes buffer .written) (tried s bytes buffer .buffer)
+    ≡ cond (command s bytes .system .ready) (listing (command s bytes .system)) [])

@@ -4,7 +4,7 @@ use mathlib.Core.Bool.{Bool, cond}
 use Prim.Native.Nat.{ℕ, _+_}
 use lib.ListN.{length, getD}
 use lib.Dec.{eqb}
-use Rattle.text.specs.Numbers.{newline, named, vector}
+use Rattle.text.specs.Numbers.{newline, named, pair, vector}
 use Rattle.text.specs.Quoted.{text}
 use Rattle.frame.specs.Frame.{isLength}
 use Rattle.frame.specs.Reading.{Reading, writtenCount, reading}
@@ -46,7 +46,7 @@ stampReason r = cond (eqb r 17) (text "the length is not 6") (text "the sender i
 
 -- sender and stamp by name
 unfoldable pub stamped : ℕ → ℕ → List ℕ
-stamped sender stamp = named (text "sender ") sender ++ named (text " stamp ") stamp
+stamped sender stamp = pair (text "sender ") sender (text " stamp ") stamp
 
 -- what was read of a clock frame, or the refusal and why
 unfoldable pub stampAnswered : StampReading → List ℕ

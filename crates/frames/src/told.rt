@@ -18,6 +18,7 @@ use frame::stamp::Stamped;
 use text::rules::put;
 use text::rules::put_counts;
 use text::rules::put_named;
+use text::rules::put_pair;
 
 // Writes the counts by name.
 fn put_counted(n: u8, counts: [u16; 8], buffer: &mut [u8]) -> usize
@@ -98,8 +99,7 @@ fn put_stamped(sender: u8, stamp: u32, buffer: &mut [u8]) -> usize
     requires { ⌜ length (stamped sender stamp) ≤ length (now buffer) ⌝ }
     ensures { λ r. ⌜ Wrote (stamped sender stamp) (now (buffer .entry)) r (now (buffer .exit)) ⌝ }
 {
-    let at = put_named(b"sender ", sender as u64, buffer);
-    at + put_named(b" stamp ", stamp as u64, &mut buffer[at..])
+    put_pair(b"sender ", sender as u64, b" stamp ", stamp as u64, buffer)
 }
 
 // Writes what reading a clock frame answered.

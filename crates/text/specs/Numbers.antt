@@ -23,6 +23,10 @@ newline = 0x0a ∷ []
 abbrev pub named : List ℕ → ℕ → List ℕ
 named word x = word ++ decimal x
 
+-- two of these
+abbrev pub pair : List ℕ → ℕ → List ℕ → ℕ → List ℕ
+pair a x b y = named a x ++ named b y
+
 -- the count at k, after a comma unless it is the first
 unfoldable pub countOf : ℕ → ℕ → List ℕ
 countOf k x = cond (eqb k 0) [] (44 ∷ []) ++ decimal x

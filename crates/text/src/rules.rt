@@ -3,7 +3,7 @@ ghost use mathlib.Core.Path.{_≡_};
 ghost use mathlib.Core.List.{_++_};
 ghost use Prim.Native.Nat.{_≤_};
 ghost use lib.ListN.{length};
-ghost use Rattle.text.specs.Numbers.{decimal, newline, countOf, vector};
+ghost use Rattle.text.specs.Numbers.{decimal, newline, pair, countOf, vector};
 ghost use Rattle.text.specs.Wrote.{Wrote};
 
 // Writes a word.
@@ -59,6 +59,15 @@ pub fn put_named(word: &[u8], x: u64, buffer: &mut [u8]) -> usize
 {
     let at = put(word, buffer);
     at + put_decimal(x, &mut buffer[at..])
+}
+
+// Writes a word and a number, and another word and a number.
+pub fn put_pair(a: &[u8], x: u64, b: &[u8], y: u64, buffer: &mut [u8]) -> usize
+    requires { ⌜ length (pair (now a) x (now b) y) ≤ length (now buffer) ⌝ }
+    ensures { λ r. ⌜ Wrote (pair (now (a .entry)) x (now (b .entry)) y) (now (buffer .entry)) r (now (buffer .exit)) ⌝ }
+{
+    let at = put_named(a, x, buffer);
+    at + put_named(b, y, &mut buffer[at..])
 }
 
 // Writes a word, a number and the end of the line.

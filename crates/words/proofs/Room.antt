@@ -5,15 +5,15 @@ use Prim.Native.Nat.{ℕ, _+_, _≤_}
 use native.Mathlib.Omega.{arith}
 use lib.Dec.{eqb}
 use lib.ListN.{length, length-append}
-use Rattle.text.specs.Numbers.{decimal, named}
+use Rattle.text.specs.Numbers.{decimal, named, pair}
 use Rattle.text.specs.Quoted.{text}
 use Rattle.text.proofs.Digits.{length-decimal}
 use Rattle.text.proofs.Room.{either}
 use Rattle.election.specs.Commands.{Command, SetUp, Start, Crash, Link, Run, Lose, Report, Rank}
-use Rattle.words.specs.Doings.{pair, settingUp, linking, doing}
+use Rattle.words.specs.Doings.{settingUp, linking, doing}
 use Rattle.words.specs.Reasons.{reason, refused}
 
-reason-room : (r : ℕ) → length (reason r) ≤ 48
+pub reason-room : (r : ℕ) → length (reason r) ≤ 48
 unfolding text reason
 reason-room r =
     either (eqb r 1) _ _ 48 (omega arith)

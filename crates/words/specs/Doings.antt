@@ -3,15 +3,11 @@ use mathlib.Core.List.{List, [], _++_}
 use mathlib.Core.Bool.{Bool, cond}
 use Prim.Native.Nat.{ℕ}
 use lib.Dec.{eqb}
-use Rattle.text.specs.Numbers.{named}
+use Rattle.text.specs.Numbers.{named, pair}
 use Rattle.text.specs.Quoted.{text}
 use Rattle.election.specs.Commands.{Command, SetUp, Start, Crash, Link, Run, Lose, Report, Rank}
 use Rattle.decision.specs.declared.Decision.{Decision}
 use Rattle.decision.specs.declared.Decision.the-variants as code
-
--- a word and a number, and another word and a number
-abbrev pub pair : List ℕ → ℕ → List ℕ → ℕ → List ℕ
-pair a x b y = named a x ++ named b y
 
 -- set up of either kind of head
 unfoldable pub settingUp : Bool → ℕ → ℕ → List ℕ

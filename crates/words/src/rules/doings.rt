@@ -2,19 +2,11 @@
 ghost use Prim.Native.Nat.{_≤_};
 ghost use lib.ListN.{length};
 ghost use Rattle.text.specs.Wrote.{Wrote};
-ghost use Rattle.words.specs.Doings.{pair, settingUp, linking, doingOf};
+ghost use Rattle.words.specs.Doings.{settingUp, linking, doingOf};
 use decision::Decision;
 use text::rules::put;
 use text::rules::put_named;
-
-// Writes a word and a number, and another word and a number.
-fn put_pair(a: &[u8], x: u64, b: &[u8], y: u64, buffer: &mut [u8]) -> usize
-    requires { ⌜ length (pair (now a) x (now b) y) ≤ length (now buffer) ⌝ }
-    ensures { λ r. ⌜ Wrote (pair (now (a .entry)) x (now (b .entry)) y) (now (buffer .entry)) r (now (buffer .exit)) ⌝ }
-{
-    let at = put_named(a, x, buffer);
-    at + put_named(b, y, &mut buffer[at..])
-}
+use text::rules::put_pair;
 
 // Writes what set up does.
 fn put_set_up(clock: bool, n: u8, period: u8, buffer: &mut [u8]) -> usize

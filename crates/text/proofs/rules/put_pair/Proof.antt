@@ -1,10 +1,10 @@
--- The function rules::doings::put_pair meets its contract.
+-- The function rules::put_pair meets its contract.
 use native.Mathlib.Omega.{arith}
 use lib.ListN.{length-append}
 use Rattle.text.proofs.Parts.{wrote-part, room-at, room-part, ends-in}
 use borrow.Author.Needs.{needs}
-use Rattle.words.proofs.rules.doings.put_pair.Statement.{statement}
-use Rattle.words.proofs.rules.doings.put_pair.Tie as tie
+use Rattle.text.proofs.rules.put_pair.Statement.{statement}
+use Rattle.text.proofs.rules.put_pair.Tie as tie
 
 put-named-requires : tie.Need-put-named-requires
 put-named-requires c κs = simp length-append (omega (arith, simp length-append at (c .before .before .before .before .pre)))

@@ -1,10 +1,10 @@
 -- The function rules::doings::put_link meets its contract.
 use native.Mathlib.Omega.{arith}
 use borrow.Author.Tests.{eq-eqb, ne-eqb}
-use Rattle.text.specs.Numbers.{named}
+use Rattle.text.specs.Numbers.{named, pair}
 use Rattle.text.specs.Quoted.{text}
 use Rattle.text.proofs.Parts.{wrote-part, room-at, room-part, room-first, ends-in}
-use Rattle.words.specs.Doings.{pair, linking}
+use Rattle.words.specs.Doings.{linking}
 use borrow.Author.Needs.{needs}
 use Rattle.words.proofs.rules.doings.put_link.Statement.{statement}
 use Rattle.words.proofs.rules.doings.put_link.Tie as tie

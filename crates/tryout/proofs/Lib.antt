@@ -1,0 +1,4 @@
+-- Laws of what the program is asked, and of what it says.
+pub mod Asking
+pub mod Room
+pub mod Telling

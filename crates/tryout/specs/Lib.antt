@@ -1,0 +1,5 @@
+-- What the program tryout is asked, and what it says.
+pub mod Asked
+pub mod Moves
+pub mod Pieces
+pub mod Told

@@ -1,0 +1,23 @@
+-- How the program ended, once its arguments asked for a command.
+use mathlib.Core.Path.{_≡_}
+use mathlib.Core.Logic.{_≢_}
+use mathlib.Core.List.{List}
+use mathlib.Core.Bool.{true, false}
+use Prim.Native.Nat.{ℕ}
+use lib.IntN.{ℤ}
+use lib.ListN.{length, take}
+use Rattle.calls.specs.Calls.{Failed, Whole, Taken}
+use Rattle.election.specs.Schedule.{schedule}
+use Rattle.tryout.specs.Told.{said}
+use Rattle.tryout.specs.declared.Ran.{Ran}
+use Rattle.tryout.specs.declared.Ran.the-variants.{Told, TurnedDown, NotRead, NotWritten}
+
+-- all was read, the schedule is accepted, and all was written; or it is refused, and all was written; a read failed, and nothing was written; or a write
+-- took none of what was left
+abbrev pub Ended : Ran → ℤ → ℕ → List ℕ → List ℕ → ℤ → ℕ → Type 0
+Ended Told got size space bytes put done =
+    Whole got size (length space) × (schedule (take size space) .refusal ≡ 0) × Taken true put done (length (said (take size space) bytes))
+Ended TurnedDown got size space bytes put done =
+    Whole got size (length space) × (schedule (take size space) .refusal ≢ 0) × Taken true put done (length (said (take size space) bytes))
+Ended NotRead got size space bytes put done = Failed got × (done ≡ 0)
+Ended NotWritten got size space bytes put done = Whole got size (length space) × Taken false put done (length (said (take size space) bytes))
