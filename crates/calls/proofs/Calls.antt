@@ -1,18 +1,22 @@
 -- Laws of what the calls of read and write answered.
 use mathlib.Core.Path.{_≡_, refl, sym, ap, subst, _∙_}
+use mathlib.Core.List.{List}
 use mathlib.Core.Bool.{Bool, true, false, not, true≢false}
 use Prim.Native.Nat.{ℕ, _+_, _<_, _≤_, _^_}
+use native.Mathlib.Decide.{decLt}
 use native.Mathlib.Omega.{arith}
 use borrow.Author.Tests.{ltb-true, leb-true, leb-false}
 use borrow.Author.Needs.{sfits-of}
 use lib.IntN.{ℤ, pos, negsuc}
+use lib.ListN.{length, take}
+use lib.Seq.{take-all, length-take-le}
 use lib.Signed.{ltZ, leZ, mag}
 use mir.Facts.{toZ-ofZ}
 use mir.Syntax.{w64}
 use mir.Val.{ofZ, toZ}
 use Rattle.io.specs.Counts.{clamped}
 use Rattle.libc.specs.Io.{Moved}
-use Rattle.calls.specs.Calls.{moved, Failed, Whole, Reading, Taken}
+use Rattle.calls.specs.Calls.{moved, Failed, Whole, Reading, Taken, EnoughFor}
 
 -- what is counted is what was moved
 pub counts : (n : ℕ) (z : ℤ) → Moved n z → clamped z n ≡ moved z
@@ -78,3 +82,15 @@ read-whole false r e = absurd (true≢false e)
 pub read-failed : (b : Bool) {got : ℤ} (size room : ℕ) → Reading b got size room → not b ≡ true → Failed got
 read-failed true size room r e = absurd (true≢false (sym e))
 read-failed false size room r e = r
+
+-- it is enough to read a byte more than the most of which different things are made
+pub enough : (made : List ℕ → List ℕ) (most : ℕ) (one : List ℕ) → ((l : List ℕ) → most < length l → made l ≡ one) → EnoughFor made most
+enough made most one long given got size room more whole end = which (decLt size (length given))
+  where
+    which : Dec (size < length given) → made (take size given) ≡ made given
+    which (no all) = ap made (take-all size given (omega arith))
+    which (yes some) = full (decLt size room)
+      where
+        full : Dec (size < room) → made (take size given) ≡ made given
+        full (yes l) = absurd (omega (arith, end (whole l)))
+        full (no l) = long (take size given) (omega (arith, length-take-le size given (omega arith))) ∙ sym (long given (omega arith))

@@ -1,2 +1,3 @@
 -- What is claimed of try-outs.
+pub mod Computed
 pub mod Showing

@@ -1,19 +1,16 @@
 -- The tables of specs/Rehearsals.antt, specs/Ranked.antt, specs/Clocked.antt and specs/Errors.antt, computed by the rules.
 use mathlib.Core.Path.{refl}
-use Rattle.lists.specs.Join.{joinTo}
 use Rattle.election.specs.Clocked.{elections, refusals}
 use Rattle.election.specs.Errors.{errors, prints, DarkTwice, Decimals, FreshWhole, SetUpWhole, ClocksWhole, EightWhole}
-use Rattle.election.specs.Listing.{status, leaderOf, vectorOf, stampOf, knownOf, keptOf, stationLine, stationLines, dark, allTrust, aLeader, upAmong, verdict, verdictLine, listingOf, reported, endLine, reports, output}
-use Rattle.text.specs.Numbers.{digits, countOf, vector}
+use Rattle.election.specs.Listing.{reported, endLine, reports, output}
 use Rattle.election.specs.Ranked.{preferences, changes}
 use Rattle.election.specs.Rehearsals.{rehearsals}
-use Rattle.text.specs.Quoted.{text}
-use Rattle.election.proofs.Opened.{rules}
+use Rattle.election.proofs.Opened.{listings}
 use Rattle.election.proofs.Ruled.{ruled, HoldRuled}
 
--- what is opened to compute what is printed
+-- what is opened to compute what a schedule prints by the rules
 unfoldable printing : Unit {0}
-unfolding rules ruled text digits joinTo countOf vector status leaderOf vectorOf stampOf knownOf keptOf stationLine stationLines dark allTrust aLeader upAmong verdict verdictLine listingOf reported endLine
+unfolding listings ruled reported endLine
 printing = tt
 
 pub errors-ruled : HoldRuled errors

@@ -26,6 +26,7 @@ use Rattle.simulator.specs.Gone.{Gone, gone, fullOf, refusalOf, said}
 use Rattle.simulator.specs.declared.rules.Onward.{Onward}
 use Rattle.rehearse.specs.Moves.{Next, Enough}
 use Rattle.calls.specs.Calls.{Taken}
+use Rattle.calls.proofs.Calls.{enough}
 
 -- above 65,536 bytes the last line is all
 long-output : (bytes : List ℕ) → mostBytes < length bytes → output bytes ≡ endLine 21 0
@@ -33,15 +34,7 @@ unfolding output schedule
 long-output bytes l = rw (lt-ltb mostBytes (length bytes) l)
 
 pub enough-holds : Enough
-enough-holds given got size room most whole end = which (decLt size (length given))
-  where
-    which : Dec (size < length given) → output (take size given) ≡ output given
-    which (no all) = ap output (take-all size given (omega arith))
-    which (yes more) = long (decLt size room)
-      where
-        long : Dec (size < room) → output (take size given) ≡ output given
-        long (yes l) = absurd (omega (arith, end (whole l)))
-        long (no full) = long-output (take size given) (omega (arith, length-take-le size given (omega arith))) ∙ sym (long-output given (omega arith))
+enough-holds = enough output mostBytes (endLine 21 0) long-output
 
 -- what is left of what is to be printed, once a number of bytes was taken
 pub record Left (bytes : List ℕ) (done : ℕ) (rest : List ℕ) : Type 0 where

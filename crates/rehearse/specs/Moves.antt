@@ -3,10 +3,10 @@
 use mathlib.Core.Path.{_≡_}
 use mathlib.Core.List.{List}
 use mathlib.Core.Bool.{true, false}
-use Prim.Native.Nat.{ℕ, _<_, _≤_}
-use lib.IntN.{ℤ, pos}
+use Prim.Native.Nat.{ℕ}
+use lib.IntN.{ℤ}
 use lib.ListN.{length, take, drop}
-use Rattle.calls.specs.Calls.{Failed, Whole, Taken}
+use Rattle.calls.specs.Calls.{Failed, Whole, EnoughFor, Taken}
 use Rattle.election.specs.Listing.{output}
 use Rattle.election.specs.Schedule.{mostBytes}
 use Rattle.rehearse.specs.declared.Ran.{Ran}
@@ -14,9 +14,7 @@ use Rattle.rehearse.specs.declared.Ran.the-variants.{Printed, NotRead, N
 
 -- where all was read that matters, the rest of what was given, if there is any, changes nothing of what is to be printed
 abbrev pub Enough : Type 0
-Enough =
-    (given : List ℕ) (got : ℤ) (size room : ℕ) → mostBytes < room → Whole got size room → (got ≡ pos 0 → length given ≤ size)
-    → output (take size given) ≡ output given
+Enough = EnoughFor output mostBytes
 
 -- the text comes next in what is to be printed for the schedule
 abbrev pub Next : List ℕ → ℕ → List ℕ → Type 0

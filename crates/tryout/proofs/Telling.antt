@@ -2,17 +2,17 @@
 use mathlib.Core.Path.{_≡_, refl, sym, ap, _∙_}
 use mathlib.Core.List.{List, [], _∷_, _++_}
 use mathlib.Core.Bool.{Bool, true, false, cond}
-use Prim.Native.Nat.{ℕ, _+_, _≤_}
+use Prim.Native.Nat.{ℕ, _+_, _<_, _≤_}
 use native.Mathlib.Decide.{decLe}
 use native.Mathlib.Omega.{arith}
 use lib.Dec.{eqb}
 use lib.ListN.{length, take, length-take}
 use lib.Seq.{take-all, length-take-le}
-use borrow.Author.Tests.{eq-eqb, ne-eqb}
+use borrow.Author.Tests.{eq-eqb, ne-eqb, lt-ltb}
 use Rattle.text.specs.Quoted.{text}
 use Rattle.election.specs.Commands.{decode, operands, ruling, command, numberOf}
 use Rattle.election.specs.Listing.{listing, listingOf, longestListing}
-use Rattle.election.specs.Schedule.{End, schedule, offsetOf}
+use Rattle.election.specs.Schedule.{End, mostBytes, schedule, offsetOf}
 use Rattle.election.specs.Schedule.{refusalOf as refusalIn}
 use Rattle.election.specs.Schedule.{said as saidSchedule}
 use Rattle.election.specs.Sound.{sound}
@@ -29,6 +29,8 @@ use Rattle.dryrun.specs.declared.Outcome.{Outcome}
 use Rattle.dryrun.proofs.Showing.{with-room, written-inside}
 use Rattle.words.specs.Doings.{doing, doingOf}
 use Rattle.words.proofs.Doings.{worded}
+use Rattle.calls.proofs.Calls.{enough}
+use Rattle.tryout.specs.Moves.{Enough}
 use Rattle.tryout.specs.Pieces.{shownOr, afterShown}
 use Rattle.tryout.specs.Told.{noTable, table, after, first, told, turnedDown}
 use Rattle.tryout.specs.Told.{said as saidOf}
@@ -108,3 +110,11 @@ module _ (given bytes : List ℕ) (r : Scheduled) (e : saidSchedule r ≡ schedu
     pub refused-said : turnedDown (numberOf why) at ≡ saidOf given bytes
     unfolding saidOf
     refused-said = rw (← refused-so, same-refusal, same-offset, w)
+
+-- above 65,536 bytes it is always the same
+long-said : (bytes given : List ℕ) → mostBytes < length given → saidOf given bytes ≡ turnedDown 21 0
+unfolding saidOf schedule
+long-said bytes given l = rw (lt-ltb mostBytes (length given) l)
+
+pub enough-holds : Enough
+enough-holds bytes = enough (λ given. saidOf given bytes) mostBytes (turnedDown 21 0) (long-said bytes)

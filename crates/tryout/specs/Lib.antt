@@ -2,4 +2,5 @@
 pub mod Asked
 pub mod Moves
 pub mod Pieces
+pub mod Rows
 pub mod Told

@@ -1,4 +1,5 @@
--- How the program ended, once its arguments asked for a command.
+-- What is read and written, once the arguments asked for a command: `got` is what the last read answered, `size` how many bytes were read to the front of
+-- `space`; `put` is what the last write answered, and `done` how many bytes were taken.
 use mathlib.Core.Path.{_≡_}
 use mathlib.Core.Logic.{_≢_}
 use mathlib.Core.List.{List}
@@ -6,11 +7,15 @@ use mathlib.Core.Bool.{true, false}
 use Prim.Native.Nat.{ℕ}
 use lib.IntN.{ℤ}
 use lib.ListN.{length, take}
-use Rattle.calls.specs.Calls.{Failed, Whole, Taken}
-use Rattle.election.specs.Schedule.{schedule}
+use Rattle.calls.specs.Calls.{Failed, Whole, EnoughFor, Taken}
+use Rattle.election.specs.Schedule.{mostBytes, schedule}
 use Rattle.tryout.specs.Told.{said}
 use Rattle.tryout.specs.declared.Ran.{Ran}
 use Rattle.tryout.specs.declared.Ran.the-variants.{Told, TurnedDown, NotRead, NotWritten}
+
+-- where all was read that matters, the rest of what was given, if there is any, changes nothing of what is said
+abbrev pub Enough : Type 0
+Enough = (bytes : List ℕ) → EnoughFor (λ given. said given bytes) mostBytes
 
 -- all was read, the schedule is accepted, and all was written; or it is refused, and all was written; a read failed, and nothing was written; or a write
 -- took none of what was left
