@@ -40,7 +40,7 @@ RefusedShows =
     (s : System) (bytes buffer : List ℕ) → command s bytes .refusal ≢ 0 → sound s ≡ true → s .ready ≡ true → length (listing s) ≤ length buffer
     → Shows s buffer (tried s bytes buffer)
 
--- else the listing's refusal is answered; after an accepted command that is 16, if the buffer is short, and nothing else
+-- an accepted one answers the listing's refusal: 16 if the buffer is short, and else it shows (AcceptedShows)
 abbrev pub ElseSixteen : Type 0
 ElseSixteen =
     (s : System) (bytes buffer : List ℕ) → command s bytes .refusal ≡ 0

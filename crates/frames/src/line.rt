@@ -4,8 +4,8 @@ ghost use mathlib.Core.Bool.{cond};
 ghost use Rattle.frames.specs.Line.{Held};
 ghost use Rattle.frames.specs.Line.{begin as Line·begin};
 ghost use Rattle.frames.specs.Line.{read as Line·read};
-use text::hex::digit_of;
-use text::hex::is_blank;
+use text::rules::hex::digit_of;
+use text::rules::hex::is_blank;
 
 // How many bytes of a line are kept: one more than the longest frame has.
 pub const KEPT: usize = 20;

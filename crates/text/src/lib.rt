@@ -1,3 +1,2 @@
 // Text in a buffer: words, decimal numbers, counts with commas between them, and hex.
-pub mod hex;
 pub mod rules;

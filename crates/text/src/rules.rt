@@ -6,6 +6,8 @@ ghost use lib.ListN.{length};
 ghost use Rattle.text.specs.Numbers.{decimal, newline, pair, countOf, vector};
 ghost use Rattle.text.specs.Wrote.{Wrote};
 
+pub mod hex;
+
 // Writes a word.
 pub fn put(word: &[u8], buffer: &mut [u8]) -> usize
     requires { ⌜ length (now word) ≤ length (now buffer) ⌝ }

@@ -4,7 +4,7 @@ ghost use Prim.Native.Nat.{_≤_};
 ghost use lib.ListN.{length};
 ghost use Rattle.tryout.specs.Asked.{isLeftOver, asking, meant, sizeOf};
 use decision::widths::width;
-use text::hex::read_hex;
+use text::rules::hex::read_hex;
 
 // What the arguments ask for: a command of as many bytes; or there are no bytes, or some are left over behind the command, or it is no hex.
 pub enum Asked {

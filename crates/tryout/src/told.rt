@@ -22,7 +22,7 @@ use election::Refusal;
 use election::System;
 use listing::rules::ending::number_of;
 use listing::rules::write_listing;
-use text::hex::put_hex;
+use text::rules::hex::put_hex;
 use text::rules::put;
 use text::rules::put_pair;
 use words::rules::doings::put_doing;

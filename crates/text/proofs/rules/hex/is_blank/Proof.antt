@@ -1,8 +1,8 @@
--- The function hex::is_blank meets its contract.
+-- The function rules::hex::is_blank meets its contract.
 use mathlib.Core.Path.{refl}
 use Rattle.text.specs.Hex.{isBlank}
-use Rattle.text.proofs.hex.is_blank.Statement.{statement}
-use Rattle.text.proofs.hex.is_blank.Tie as tie
+use Rattle.text.proofs.rules.hex.is_blank.Statement.{statement}
+use Rattle.text.proofs.rules.hex.is_blank.Tie as tie
 
 returns : tie.Need-returns
 unfolding isBlank

@@ -1,4 +1,4 @@
--- The function hex::read_hex meets its contract.
+-- The function rules::hex::read_hex meets its contract.
 use mathlib.Core.Path.{_≡_, refl, sym, _∙_}
 use Prim.Native.Nat.{_-_, _<_, _≤_}
 use native.Mathlib.Omega.{arith}
@@ -7,8 +7,8 @@ use borrow.Author.Needs.{needs}
 use borrow.Author.Tests.{ltb-true, not-false}
 use Rattle.lists.proofs.Bools.{both}
 use Rattle.text.proofs.HexText.{ReadTo, read-none, read-all, read-blank, read-lone, read-other, read-byte}
-use Rattle.text.proofs.hex.read_hex.Statement.{statement}
-use Rattle.text.proofs.hex.read_hex.Tie as tie
+use Rattle.text.proofs.rules.hex.read_hex.Statement.{statement}
+use Rattle.text.proofs.rules.hex.read_hex.Tie as tie
 
 abbrev Inv-loop : tie.InvT-loop
 Inv-loop line buffer₀ at₀ size₀ buffer at size = (at ≤ length line) × (size ≤ at) × (length buffer ≡ length buffer₀) × ReadTo line at buffer size

@@ -1,9 +1,9 @@
--- The function hex::digit_for meets its contract.
+-- The function rules::hex::digit_for meets its contract.
 use borrow.Author.Tests.{lt-ltb, le-ltb}
 use borrow.Author.Needs.{needs}
 use Rattle.text.specs.Hex.{digit}
-use Rattle.text.proofs.hex.digit_for.Statement.{statement}
-use Rattle.text.proofs.hex.digit_for.Tie as tie
+use Rattle.text.proofs.rules.hex.digit_for.Statement.{statement}
+use Rattle.text.proofs.rules.hex.digit_for.Tie as tie
 
 returns : tie.Need-returns
 unfolding digit

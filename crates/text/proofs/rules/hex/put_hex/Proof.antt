@@ -1,4 +1,4 @@
--- The function hex::put_hex meets its contract.
+-- The function rules::hex::put_hex meets its contract.
 use mathlib.Core.Path.{_≡_, refl}
 use Prim.Native.Nat.{_*_, _-_, _≤_}
 use native.Mathlib.Omega.{arith}
@@ -9,8 +9,8 @@ use Rattle.text.specs.Hex.{spaced}
 use Rattle.text.specs.Wrote.{Wrote}
 use Rattle.text.proofs.HexText.{length-spaced, wrote-spaced}
 use Rattle.text.proofs.Parts.{wrote-none}
-use Rattle.text.proofs.hex.put_hex.Statement.{statement}
-use Rattle.text.proofs.hex.put_hex.Tie as tie
+use Rattle.text.proofs.rules.hex.put_hex.Statement.{statement}
+use Rattle.text.proofs.rules.hex.put_hex.Tie as tie
 
 abbrev Inv-loop : tie.InvT-loop
 Inv-loop bytes buffer₀ at₀ k₀ k-end buffer at k = (k ≤ length bytes) × (at ≡ 3 * k) × (3 * length bytes ≤ length buffer) × (length buffer ≡ length buffer₀) × Wrote (spaced (take k bytes)) buffer₀ at buffer

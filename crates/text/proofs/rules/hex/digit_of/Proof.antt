@@ -1,11 +1,11 @@
--- The function hex::digit_of meets its contract.
+-- The function rules::hex::digit_of meets its contract.
 use native.Mathlib.Omega.{arith}
 use lib.Dec.{leb}
 use borrow.Author.Tests.{leb-true}
 use Rattle.lists.proofs.Bools.{both}
 use Rattle.text.specs.Hex.{digitOf}
-use Rattle.text.proofs.hex.digit_of.Statement.{statement}
-use Rattle.text.proofs.hex.digit_of.Tie as tie
+use Rattle.text.proofs.rules.hex.digit_of.Statement.{statement}
+use Rattle.text.proofs.rules.hex.digit_of.Tie as tie
 
 sub-result : tie.Need-sub-result
 sub-result c = omega (arith, leb-true 48 (c .before .args .c) (both (leb 48 (c .before .args .c)) _ (c .if1 .taken) .0))
