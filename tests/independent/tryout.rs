@@ -84,16 +84,16 @@ pub fn told_refused(number: u64, offset: usize) -> String {
 pub enum Wrong {
     NoByte,
     NoHex,
-    TwoCommands,
+    LeftOver,
 }
 
 impl Wrong {
     /// What the program prints on standard error.
     pub fn told(self) -> String {
         let line = match self {
-            Wrong::NoByte => "",
+            Wrong::NoByte => "tryout: no command\n",
             Wrong::NoHex => "tryout: no hex\n",
-            Wrong::TwoCommands => "tryout: more than one command\n",
+            Wrong::LeftOver => "tryout: bytes left over behind the command\n",
         };
         format!("{line}{USAGE}")
     }
@@ -113,7 +113,7 @@ pub fn read_arguments(arguments: &[String]) -> Result<Vec<u8>, Wrong> {
     if bytes.is_empty() {
         Err(Wrong::NoByte)
     } else if known && bytes.len() > first_command(&bytes).len() {
-        Err(Wrong::TwoCommands)
+        Err(Wrong::LeftOver)
     } else {
         Ok(bytes)
     }

@@ -36,7 +36,7 @@ const TABLES: [&str; 7] = [
     "a run can pass the last tick",
 ];
 const BUFFERS: [&str; 6] = ["nothing is due", "no bytes", "far too short", "short by one", "exact", "longer"];
-const ARGUMENTS: [&str; 3] = ["no byte", "no hex", "more than one command"];
+const ARGUMENTS: [&str; 3] = ["no byte", "no hex", "bytes left over"];
 
 /// A try-out. The command is tried on the state after the schedule or, if that is refused, before the refused command.
 struct Case {
@@ -556,7 +556,7 @@ impl Tally {
                 self.note(match wrong {
                     Wrong::NoByte => "no byte",
                     Wrong::NoHex => "no hex",
-                    Wrong::TwoCommands => "more than one command",
+                    Wrong::LeftOver => "bytes left over",
                 });
                 (&unread, String::new(), wrong.told())
             }

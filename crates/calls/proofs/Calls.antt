@@ -64,15 +64,10 @@ pub taken-some : (b : Bool) (put : ℤ) {done all : ℕ} → Taken b put done al
 taken-some true put t e = absurd (true≢false (sym e))
 taken-some false put t e = t
 
--- no more were taken than there are
-pub taken-inside : (b : Bool) (put : ℤ) {done all : ℕ} → Taken b put done all → done ≤ all
-taken-inside true put t = omega arith
-taken-inside false put t = omega arith
-
--- taken after others
-pub taken-after : (b : Bool) (put : ℤ) (first done all : ℕ) → Taken b put done all → Taken b put (first + done) (first + all)
-taken-after true put first done all t = omega arith
-taken-after false put first done all t = (t .0, omega arith)
+-- taken where none were taken before
+pub taken-first : (b : Bool) (put : ℤ) (first done all : ℕ) → first ≡ 0 → Taken b put done (first + all) → Taken b put done all
+taken-first true put first done all z t = omega (arith, z, t)
+taken-first false put first done all z t = (t .0, omega (arith, z, t .1))
 
 -- what a test of whether no read failed tells
 pub read-whole : (b : Bool) {got : ℤ} {size room : ℕ} → Reading b got size room → not b ≡ false → Whole got size room

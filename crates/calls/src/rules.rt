@@ -1,6 +1,6 @@
 // Reading standard input whole, and writing a text whole, in as many calls of the system as it takes.
 ghost use mathlib.Core.Path.{_≡_};
-ghost use Prim.Native.Nat.{_+_, _-_, _≤_};
+ghost use Prim.Native.Nat.{_+_, _-_, _<_, _≤_, _^_};
 ghost use lib.ListN.{drop, length, take};
 ghost use Rattle.libc.specs.Io.{Moved};
 ghost use Rattle.calls.specs.Calls.{moved, Reading, Taken};
@@ -37,27 +37,31 @@ pub fn read_whole(buffer: &mut [u8], size: &mut usize, got: &mut isize) -> bool
     true
 }
 
-// One write, to a descriptor, of what is left of a text: keeps what the system answered, and counts the bytes that it took.
-fn write_next(fd: i32, text: &[u8], rest: &[u8], done: &mut usize, put: &mut isize)
-    requires { ⌜ now rest ≡ drop (now done) (now text) ⌝ }
-    ensures { λ _. ⌜ Moved (length (now (text .entry)) - now (done .entry)) (now (put .exit)) ⌝ }
+// One write, to a descriptor, of what is left of a text that begins where the count was `first`: keeps what the system answered, and counts
+// the bytes that it took.
+fn write_next(fd: i32, text: &[u8], first: usize, rest: &[u8], done: &mut usize, put: &mut isize)
+    requires { ⌜ now rest ≡ drop (now done - first) (now text) ⌝ }
+    requires { ⌜ now done + length (now rest) < 2 ^ 64 ⌝ }
+    ensures { λ _. ⌜ Moved (length (now (rest .entry))) (now (put .exit)) ⌝ }
     ensures { λ _. ⌜ now (done .exit) ≡ now (done .entry) + moved (now (put .exit)) ⌝ }
 {
     *put = libc::write(fd, rest);
     *done += io::count(*put, rest);
 }
 
-// Writes a text to a descriptor, in as many writes as it takes; answers whether all of it was taken.
+// Writes a text to a descriptor, in as many writes as it takes, and counts on; answers whether all of it was taken.
 pub fn write_text(fd: i32, text: &[u8], done: &mut usize, put: &mut isize) -> bool
-    ensures { λ r. ⌜ Taken r (now (put .exit)) (now (done .exit)) (length (now (text .entry))) ⌝ }
+    requires { ⌜ now done + length (now text) < 2 ^ 64 ⌝ }
+    ensures { λ r. ⌜ Taken r (now (put .exit)) (now (done .exit)) (now (done .entry) + length (now (text .entry))) ⌝ }
 {
-    *done = 0;
-    while *done < text.len() {
-        let at = *done;
-        write_next(fd, text, &text[at..], done, put);
+    let first = *done;
+    let mut at = 0;
+    while at < text.len() {
+        write_next(fd, text, first, &text[at..], done, put);
         if *put <= 0 {
             return false;
         }
+        at = *done - first;
     }
     true
 }

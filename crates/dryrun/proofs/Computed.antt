@@ -4,8 +4,8 @@ use Rattle.election.specs.Listing.{listed}
 use Rattle.election.specs.System.{atTick}
 use Rattle.election.proofs.Opened.{listings}
 use Rattle.dryrun.specs.DryRun.{tried}
-use Rattle.dryrun.specs.Rows.{Rehearsed}
+use Rattle.dryrun.specs.Rows.{TriedOut}
 
-pub rehearsed : Rehearsed
+pub tried-out : TriedOut
 unfolding listings atTick listed tried
-rehearsed = (refl, (refl, (refl, (refl, (refl, (refl, (refl, (refl, (refl, tt)))))))))
+tried-out = (refl, (refl, (refl, (refl, (refl, (refl, (refl, (refl, (refl, tt)))))))))

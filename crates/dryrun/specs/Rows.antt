@@ -10,7 +10,7 @@ use Rattle.election.specs.System.{fresh, atTick}
 use Rattle.election.specs.declared.System.{System}
 use Rattle.dryrun.specs.DryRun.{Tried, tried}
 
--- a system, the command's bytes, a buffer of as many dots; and what must be answered, with what is written there
+-- a system, the command's bytes, a buffer of `room` dots; the refusal that must be answered, what is shown, and how many dots are left
 pub record Row : Type 0 where
   pub system : System
   pub bytes : List ℕ
@@ -70,5 +70,5 @@ rows =
     ∷ record { system = atTick 1000001 one; bytes = crash 1; room = 100; refusal = 15; shown = []; left = 100 }
     ∷ []
 
-abbrev pub Rehearsed : Type 0
-Rehearsed = Hold rows
+abbrev pub TriedOut : Type 0
+TriedOut = Hold rows

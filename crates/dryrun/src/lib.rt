@@ -46,7 +46,8 @@ fn length_of(answer: Answer) -> usize
     }
 }
 
-// Does the first command of the bytes on a copy of the system, and writes the listing after it into the front of the buffer.
+// Does the first command of the bytes on a copy of the system, and writes the listing after it into the front of the buffer. Answers the first
+// refusal, the length written, and the system as it was.
 pub fn dry_run(s: System, bytes: &[u8], buffer: &mut [u8]) -> Outcome
     ensures { λ r. ⌜ said r (now (buffer .exit)) ≡ tried s (now (bytes .entry)) (now (buffer .entry)) ⌝ }
 {

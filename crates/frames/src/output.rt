@@ -15,6 +15,7 @@ fn print(line: Line, bytes: &[u8], text: &[u8], done: &mut usize, put: &mut isiz
     requires { ⌜ now text ≡ printed line (now bytes) ⌝ }
     ensures { λ r. ⌜ Taken r (now (put .exit)) (now (done .exit)) (length (printed line (now (bytes .entry)))) ⌝ }
 {
+    *done = 0;
     write_text(STDOUT_FILENO, text, done, put)
 }
 

@@ -20,10 +20,7 @@ fn print(bytes: &[u8], text: &[u8], done: &mut usize, put: &mut isize) -> bool
     requires { ⌜ now done + length (now text) < 2 ^ 64 ⌝ }
     ensures { λ r. ⌜ Taken r (now (put .exit)) (now (done .exit)) (now (done .entry) + length (now (text .entry))) ⌝ }
 {
-    let mut at = 0;
-    let all = write_text(STDOUT_FILENO, text, &mut at, put);
-    *done += at;
-    all
+    write_text(STDOUT_FILENO, text, done, put)
 }
 
 // Prints what a schedule gives, from the fresh system; answers whether all of it was taken.

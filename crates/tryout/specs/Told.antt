@@ -3,6 +3,7 @@ use mathlib.Core.List.{List, _++_}
 use mathlib.Core.Bool.{cond}
 use Prim.Native.Nat.{ℕ, _+_}
 use lib.Dec.{eqb}
+use lib.IntN.{ℤ, pos}
 use lib.ListN.{take}
 use Rattle.text.specs.Hex.{spaced}
 use Rattle.text.specs.Numbers.{newline, pair}
@@ -24,8 +25,11 @@ table s = cond (s .ready) (listing s) noTable
 unfoldable pub before : System → List ℕ
 before s = text "before:\n" ++ table s
 
+abbrev pub afterWord : List ℕ
+afterWord = text "after:\n"
+
 unfoldable pub after : System → List ℕ
-after s = text "after:\n" ++ table s
+after s = afterWord ++ table s
 
 -- the bytes of the command, as far as they are there; where it is none, its first byte
 abbrev pub first : List ℕ → List ℕ
@@ -62,6 +66,10 @@ unfoldable pub said : List ℕ → List ℕ → List ℕ
 said given bytes =
     let e : End = schedule given in
     cond (eqb (e .refusal) 0) (told (e .system) bytes) (turnedDown (e .refusal) (e .offset))
+
+-- where it is said: on standard output, of a refused schedule on standard error
+abbrev pub descriptor : List ℕ → ℤ
+descriptor given = cond (eqb (schedule given .refusal) 0) (pos 1) (pos 2)
 
 -- room that is enough for it
 abbrev pub longestSaid : ℕ

@@ -6,7 +6,7 @@ ghost use Rattle.tryout.specs.Asked.{isLeftOver, asking, meant, sizeOf};
 use decision::widths::width;
 use text::rules::hex::read_hex;
 
-// What the arguments ask for: a command of as many bytes; or there are no bytes, or some are left over behind the command, or it is no hex.
+// What the arguments ask for: a command, of so many bytes; or there are no bytes, or some are left over behind the command, or it is no hex.
 pub enum Asked {
     Command(usize),
     NoBytes,

@@ -5,7 +5,7 @@ ghost use lib.ListN.{length};
 ghost use Rattle.calls.specs.Calls.{Taken};
 ghost use Rattle.election.specs.Schedule.{mostBytes};
 ghost use Rattle.tryout.specs.Moves.{Ended};
-ghost use Rattle.tryout.specs.Told.{said};
+ghost use Rattle.tryout.specs.Told.{said, descriptor};
 use crate::arguments::Asked;
 use crate::arguments::gather;
 use crate::arguments::read_command;
@@ -26,8 +26,8 @@ pub enum Ran {
     NotWritten,
 }
 
-// Writes what is said to a descriptor, in as many writes as it takes; answers whether all of it was taken. Nothing else in the program
-// writes to standard output.
+// Writes what is said, in as many writes as it takes: to standard output for an accepted schedule, to standard error for a refused one. Answers
+// whether all of it was taken. Nothing else in the program writes to standard output.
 fn write_said(
     fd: i32,
     given: &[u8],
@@ -37,6 +37,8 @@ fn write_said(
     put: &mut isize,
 ) -> bool
     requires { ⌜ now text ≡ said (now given) (now bytes) ⌝ }
+    requires { ⌜ fd ≡ descriptor (now given) ⌝ }
+    requires { ⌜ now done ≡ 0 ⌝ }
     ensures { λ r. ⌜ Taken r (now (put .exit)) (now (done .exit)) (length (said (now (given .entry)) (now (bytes .entry)))) ⌝ }
 {
     write_text(fd, text, done, put)
@@ -118,8 +120,8 @@ fn main() {
     let asked = read_command(&line[..end], &mut bytes);
     match asked {
         Asked::Command(size) => try_out(&bytes[..size]),
-        Asked::NoBytes => show_usage(b""),
-        Asked::LeftOver => show_usage(b"tryout: more than one command\n"),
+        Asked::NoBytes => show_usage(b"tryout: no command\n"),
+        Asked::LeftOver => show_usage(b"tryout: bytes left over behind the command\n"),
         Asked::NoHex => show_usage(b"tryout: no hex\n"),
     }
 }

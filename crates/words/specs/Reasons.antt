@@ -6,7 +6,7 @@ use lib.Dec.{eqb}
 use Rattle.text.specs.Numbers.{named}
 use Rattle.text.specs.Quoted.{text}
 
--- the reason, by the papers' number of the refusal; 25 is the last
+-- the reason, by the papers' number of the refusal; a number that is not named is 25, the only one left
 unfoldable pub reason : ℕ → List ℕ
 reason r =
     cond (eqb r 1) (text "the byte is none of the nine commands")

@@ -1,5 +1,5 @@
 -- The function run meets its contract.
-use mathlib.Core.Path.{sym, _∙_}
+use mathlib.Core.Path.{refl, sym, _∙_}
 use lib.ListN.{length}
 use lib.Seq.{length-take-le}
 use borrow.Author.Tests.{eqb-true, eqb-false}
@@ -25,7 +25,7 @@ slice-aggregate-write-said-2 : tie.Need-slice-aggregate-write-said-2
 slice-aggregate-write-said-2 c = sym (length-take-le _ _ (wrote-inside (c .before .before .before .before .before .put-said .ensures .1)))
 
 write-said-requires : tie.Need-write-said-requires
-write-said-requires c κs = wrote-front (c .before .before .before .before .before .before .before .put-said .ensures .1)
+write-said-requires c κs = let said = c .before .before .before .before .before .before .before .put-said in (wrote-front (said .ensures .1), (rw (sym (said .ensures .0) ∙ c .before .before .before .before .if2 .taken) refl, c .before .before .before .before .before .before .before .before .before .before .before .before .before .before .before .before .before .before .before .before .before .before .before .pre .1 .1))
 
 returns-2 : tie.Need-returns-2
 returns-2 c = let wrote = c .before .write-said in ((read-whole (c .before .before .before .before .before .before .before .before .before .before .before .before .before .before .before .before .before .before .before .read-whole .result) (c .before .before .before .before .before .before .before .before .before .before .before .before .before .before .before .before .before .before .before .read-whole .ensures .1) (c .before .before .before .before .before .before .before .before .before .before .before .before .before .before .before .before .if1 .left)), taken-some (wrote .result) (wrote .last .1 .1 .1 .1 .1 .0) (wrote .ensures) (c .if3 .taken))
@@ -43,7 +43,7 @@ slice-aggregate-write-said-4 : tie.Need-slice-aggregate-write-said-4
 slice-aggregate-write-said-4 c = sym (length-take-le _ _ (wrote-inside (c .before .before .before .before .before .put-said .ensures .1)))
 
 write-said-requires-2 : tie.Need-write-said-requires-2
-write-said-requires-2 c κs = wrote-front (c .before .before .before .before .before .before .before .put-said .ensures .1)
+write-said-requires-2 c κs = let said = c .before .before .before .before .before .before .before .put-said in (wrote-front (said .ensures .1), (rw (sym (said .ensures .0) ∙ c .before .before .before .before .if2 .left) refl, c .before .before .before .before .before .before .before .before .before .before .before .before .before .before .before .before .before .before .before .before .before .before .before .pre .1 .1))
 
 returns-4 : tie.Need-returns-4
 returns-4 c = let wrote = c .before .write-said2 in ((read-whole (c .before .before .before .before .before .before .before .before .before .before .before .before .before .before .before .before .before .before .before .read-whole .result) (c .before .before .before .before .before .before .before .before .before .before .before .before .before .before .before .before .before .before .before .read-whole .ensures .1) (c .before .before .before .before .before .before .before .before .before .before .before .before .before .before .before .before .if1 .left)), taken-some (wrote .result) (wrote .last .1 .1 .1 .1 .1 .0) (wrote .ensures) (c .if4 .taken))

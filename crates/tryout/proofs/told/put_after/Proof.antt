@@ -8,26 +8,26 @@ use Rattle.tryout.proofs.told.put_after.Tie as tie
 
 put-requires : tie.Need-put-requires
 unfolding text afterShown
-put-requires c κs = (room-first (text "after:\n") (shownOr (c .before .before .before .before .args .shown .now)) (c .before .before .before .before .pre))
+put-requires c κs = let start = c .before .before .before .before in (room-first (text "after:\n") (shownOr (start .args .shown .now)) (start .pre))
 
 sub-put-shown : tie.Need-sub-put-shown
 unfolding text afterShown
-sub-put-shown c = room-at (shownOr (c .before .before .before .before .before .before .before .args .shown .now)) (c .before .before .put .ensures) (c .before .before .before .before .before .before .before .pre)
+sub-put-shown c = let start = c .before .before .before .before .before .before .before in let one = c .before .before .put .ensures in room-at (shownOr (start .args .shown .now)) one (start .pre)
 
 part-put-shown-start : tie.Need-part-put-shown-start
 part-put-shown-start c = sub-put-shown c
 
 put-shown-requires : tie.Need-put-shown-requires
 unfolding text afterShown
-put-shown-requires c κs = room-part (shownOr (c .before .before .before .before .before .before .before .before .args .shown .now)) (c .before .before .before .put .ensures) (c .before .before .before .before .before .before .before .before .pre)
+put-shown-requires c κs = let start = c .before .before .before .before .before .before .before .before in let one = c .before .before .before .put .ensures in room-part (shownOr (start .args .shown .now)) one (start .pre)
 
 add-result : tie.Need-add-result
 unfolding text afterShown
-add-result c = record { fits = ends-in (wrote-part (c .before .before .before .before .before .before .put .ensures) (c .before .before .put-shown .ensures)) (c .before .before .before .before .before .before .before .before .before .before .before .pre) (c .before .before .before .before .before .before .before .before .before .before .before .good .1 .0 .0) }
+add-result c = let start = c .before .before .before .before .before .before .before .before .before .before .before in let one = c .before .before .before .before .before .before .put .ensures in let two = c .before .before .put-shown .ensures in record { fits = ends-in (wrote-part one two) (start .pre) (start .good .1 .0 .0) }
 
 returns : tie.Need-returns
 unfolding text afterShown
-returns c = wrote-part (c .before .before .before .before .before .before .put .ensures) (c .before .before .put-shown .ensures)
+returns c = let start = c .before .before .before .before .before .before .before .before .before .before .before in let one = c .before .before .before .before .before .before .put .ensures in let two = c .before .before .put-shown .ensures in wrote-part one two
 
 pub put-after-spec : {M : Type 1} → statement M
 put-after-spec =

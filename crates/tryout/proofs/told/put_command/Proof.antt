@@ -10,41 +10,41 @@ use Rattle.tryout.proofs.told.put_command.Tie as tie
 
 put-heading-requires : tie.Need-put-heading-requires
 unfolding commandLine
-put-heading-requires c κs = (room-first (heading (c .before .before .before .args .bytes .now)) (answered (refusalOf (c .before .before .before .args .attempt)) (c .before .before .before .args .bytes .now)) (room-first ((heading (c .before .before .before .args .bytes .now)) ++ (answered (refusalOf (c .before .before .before .args .attempt)) (c .before .before .before .args .bytes .now))) (newline) (c .before .before .before .pre .2)))
+put-heading-requires c κs = let start = c .before .before .before in (room-first (heading (start .args .bytes .now)) (answered (refusalOf (start .args .attempt)) (start .args .bytes .now)) (room-first ((heading (start .args .bytes .now)) ++ (answered (refusalOf (start .args .attempt)) (start .args .bytes .now))) (newline) (start .pre .2)))
 
 sub-put-answer : tie.Need-sub-put-answer
 unfolding commandLine
-sub-put-answer c = room-at (answered (refusalOf (c .before .before .before .before .before .before .args .attempt)) (c .before .before .before .before .before .before .args .bytes .now)) (c .before .before .put-heading .ensures) (room-first ((heading (c .before .before .before .before .before .before .args .bytes .now)) ++ (answered (refusalOf (c .before .before .before .before .before .before .args .attempt)) (c .before .before .before .before .before .before .args .bytes .now))) (newline) (c .before .before .before .before .before .before .pre .2))
+sub-put-answer c = let start = c .before .before .before .before .before .before in let one = c .before .before .put-heading .ensures in room-at (answered (refusalOf (start .args .attempt)) (start .args .bytes .now)) one (room-first ((heading (start .args .bytes .now)) ++ (answered (refusalOf (start .args .attempt)) (start .args .bytes .now))) (newline) (start .pre .2))
 
 part-put-answer-start : tie.Need-part-put-answer-start
 part-put-answer-start c = sub-put-answer c
 
 put-answer-requires : tie.Need-put-answer-requires
 unfolding commandLine
-put-answer-requires c κs = let start = c .before .before .before .before .before .before .before in (start .pre .0, start .pre .1, room-part (answered (refusalOf (c .before .before .before .before .before .before .before .args .attempt)) (c .before .before .before .before .before .before .before .args .bytes .now)) (c .before .before .before .put-heading .ensures) (room-first ((heading (c .before .before .before .before .before .before .before .args .bytes .now)) ++ (answered (refusalOf (c .before .before .before .before .before .before .before .args .attempt)) (c .before .before .before .before .before .before .before .args .bytes .now))) (newline) (c .before .before .before .before .before .before .before .pre .2)))
+put-answer-requires c κs = let start = c .before .before .before .before .before .before .before in let one = c .before .before .before .put-heading .ensures in (start .pre .0, start .pre .1, room-part (answered (refusalOf (start .args .attempt)) (start .args .bytes .now)) one (room-first ((heading (start .args .bytes .now)) ++ (answered (refusalOf (start .args .attempt)) (start .args .bytes .now))) (newline) (start .pre .2)))
 
 add-b : tie.Need-add-b
 unfolding commandLine
-add-b c = record { fits = ends-in (wrote-part (c .before .before .before .before .before .before .put-heading .ensures) (c .before .before .put-answer .ensures)) (room-first ((heading (c .before .before .before .before .before .before .before .before .before .before .args .bytes .now)) ++ (answered (refusalOf (c .before .before .before .before .before .before .before .before .before .before .args .attempt)) (c .before .before .before .before .before .before .before .before .before .before .args .bytes .now))) (newline) (c .before .before .before .before .before .before .before .before .before .before .pre .2)) (c .before .before .before .before .before .before .before .before .before .before .good .1 .1 .1 .0 .0) }
+add-b c = let start = c .before .before .before .before .before .before .before .before .before .before in let one = c .before .before .before .before .before .before .put-heading .ensures in let two = c .before .before .put-answer .ensures in record { fits = ends-in (wrote-part one two) (room-first ((heading (start .args .bytes .now)) ++ (answered (refusalOf (start .args .attempt)) (start .args .bytes .now))) (newline) (start .pre .2)) (start .good .1 .1 .1 .0 .0) }
 
 sub-put : tie.Need-sub-put
 unfolding commandLine
-sub-put c = room-at (newline) (wrote-part (c .before .before .before .before .before .before .before .put-heading .ensures) (c .before .before .before .put-answer .ensures)) (c .before .before .before .before .before .before .before .before .before .before .before .pre .2)
+sub-put c = let start = c .before .before .before .before .before .before .before .before .before .before .before in let one = c .before .before .before .before .before .before .before .put-heading .ensures in let two = c .before .before .before .put-answer .ensures in room-at (newline) (wrote-part one two) (start .pre .2)
 
 part-put-start : tie.Need-part-put-start
 part-put-start c = sub-put c
 
 put-requires : tie.Need-put-requires
 unfolding commandLine
-put-requires c κs = room-part (newline) (wrote-part (c .before .before .before .before .before .before .before .before .put-heading .ensures) (c .before .before .before .before .put-answer .ensures)) (c .before .before .before .before .before .before .before .before .before .before .before .before .pre .2)
+put-requires c κs = let start = c .before .before .before .before .before .before .before .before .before .before .before .before in let one = c .before .before .before .before .before .before .before .before .put-heading .ensures in let two = c .before .before .before .before .put-answer .ensures in room-part (newline) (wrote-part one two) (start .pre .2)
 
 add-result : tie.Need-add-result
 unfolding commandLine
-add-result c = record { fits = ends-in (wrote-part (wrote-part (c .before .before .before .before .before .before .before .before .before .before .before .put-heading .ensures) (c .before .before .before .before .before .before .before .put-answer .ensures)) (c .before .before .put .ensures)) (c .before .before .before .before .before .before .before .before .before .before .before .before .before .before .before .pre .2) (c .before .before .before .before .before .before .before .before .before .before .before .before .before .before .before .good .1 .1 .1 .0 .0) }
+add-result c = let start = c .before .before .before .before .before .before .before .before .before .before .before .before .before .before .before in let one = c .before .before .before .before .before .before .before .before .before .before .before .put-heading .ensures in let two = c .before .before .before .before .before .before .before .put-answer .ensures in let three = c .before .before .put .ensures in record { fits = ends-in (wrote-part (wrote-part one two) three) (start .pre .2) (start .good .1 .1 .1 .0 .0) }
 
 returns : tie.Need-returns
 unfolding commandLine
-returns c = wrote-part (wrote-part (c .before .before .before .before .before .before .before .before .before .before .before .put-heading .ensures) (c .before .before .before .before .before .before .before .put-answer .ensures)) (c .before .before .put .ensures)
+returns c = let start = c .before .before .before .before .before .before .before .before .before .before .before .before .before .before .before in let one = c .before .before .before .before .before .before .before .before .before .before .before .put-heading .ensures in let two = c .before .before .before .before .before .before .before .put-answer .ensures in let three = c .before .before .put .ensures in wrote-part (wrote-part one two) three
 
 pub put-command-spec : {M : Type 1} → statement M
 put-command-spec =
