@@ -1,0 +1,2 @@
+-- Laws of texts and schedules.
+pub mod Cases
