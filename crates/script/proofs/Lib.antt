@@ -1,2 +1,24 @@
 -- Laws of texts and schedules.
+pub mod Answers
+pub mod Capping
 pub mod Cases
+pub mod Chosen
+pub mod Coded
+pub mod Filled
+pub mod Leads
+pub mod Leaving
+pub mod LineBytes
+pub mod LineRead
+pub mod Meaning
+pub mod Measured
+pub mod Onward
+pub mod Passing
+pub mod Reading
+pub mod Restoring
+pub mod SameStory
+pub mod ShownComputed
+pub mod Sizes
+pub mod Splitting
+pub mod Taking
+pub mod Values
+pub mod Worded

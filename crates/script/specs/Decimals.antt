@@ -2,11 +2,14 @@
 use mathlib.Core.List.{List, [], _∷_}
 use mathlib.Core.Bool.{Bool, true, cond, _&&_}
 use Prim.Native.Nat.{ℕ, zero, suc, _+_, _*_, _-_}
+use lib.Dec.{leb}
 use Rattle.fit.specs.Fit.{within}
 use Rattle.script.specs.declared.Why.{Why}
 use Rattle.script.specs.declared.Why.the-variants.{UnknownWord, NumberMissing, TooManyWords, NumberRange}
 use Rattle.script.specs.declared.numbers.Numbers.{Numbers}
 use Rattle.script.specs.declared.numbers.Numbers.the-variants.{Three, Wrong}
+use Rattle.script.specs.declared.numbers.Value.{Value}
+use Rattle.script.specs.declared.numbers.Value.the-variants.{Number, NotNumber}
 
 -- every character is a decimal digit
 unfoldable pub isNumber : List ℕ → Bool
@@ -33,3 +36,11 @@ numbers zero least most (w ∷ ws) = Wrong TooManyWords
 numbers (suc k) least most [] = Wrong NumberMissing
 numbers (suc k) least most (w ∷ ws) =
     cond (isNumber w) (cond (within least (valueOf w) most) (shift (valueOf w) (numbers k least most ws)) (Wrong NumberRange)) (Wrong UnknownWord)
+
+-- a number, as far as it matters: no place takes more than 1,000,000
+abbrev pub capped : ℕ → ℕ
+capped x = cond (leb x 1000000) x 1000001
+
+-- the number that a word spells, if it is one
+unfoldable pub valued : List ℕ → Value
+valued word = cond (isNumber word) (Number (capped (valueOf word))) NotNumber
