@@ -8,6 +8,7 @@ pub mod Entries
 pub mod Meanings
 pub mod Passes
 pub mod Pieces
+pub mod Places
 pub mod Shown
 pub mod ShownRows
 pub mod Split

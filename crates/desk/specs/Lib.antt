@@ -1,0 +1,5 @@
+-- What the program desk is asked, and what it says.
+pub mod Asked
+pub mod Figure
+pub mod Said
+pub mod Wording

@@ -1,0 +1,4 @@
+// The rehearsal desk for schedules as text.
+mod asked;
+
+fn main() {}
