@@ -5,6 +5,7 @@ pub mod Cases
 pub mod Chosen
 pub mod Coded
 pub mod Filled
+pub mod Holding
 pub mod Leads
 pub mod Leaving
 pub mod LineBytes

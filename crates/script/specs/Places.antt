@@ -9,9 +9,9 @@ use Rattle.script.specs.Claims.{commandsOf}
 use Rattle.script.specs.Encoded.{encodeAll}
 use Rattle.script.specs.Split.{lines}
 
--- of the lines from line k on, with so many bytes before them, the number of the one whose bytes hold an offset; the number after the last where none does
+-- of the lines from line k on, with so many bytes before them, the number of the one whose bytes hold an offset, 0 where none does
 unfoldable pub holdingFrom : ℕ → ℕ → ℕ → List (List ℕ) → ℕ
-holdingFrom k size offset [] = k
+holdingFrom k size offset [] = 0
 holdingFrom k size offset (l ∷ ls) =
     let all : ℕ = size + length (encodeAll (commandsOf (ofLine l))) in
     cond (ltb offset all) k (holdingFrom (k + 1) all offset ls)

@@ -23,7 +23,7 @@ pub struct Turn {
 }
 
 // Reads the line at a place.
-fn line_at(text: &[u8], at: usize) -> Turn
+pub fn line_at(text: &[u8], at: usize) -> Turn
     requires { ⌜ at < length (now text) ⌝ }
     ensures { λ r. ⌜ LineAt (now (text .entry)) at (r .line) (r .next) ⌝ }
 {

@@ -8,6 +8,7 @@ pub mod entries;
 pub mod finding;
 pub mod lines;
 pub mod numbers;
+pub mod places;
 pub mod showing;
 pub mod words;
 pub mod written;
