@@ -1,1 +1,2 @@
 -- Laws of what is said.
+pub mod Asking

@@ -6,7 +6,7 @@ use crate::entries::entry_at;
 use crate::words::word_at;
 
 // Whether two words are the same.
-fn same(a: &[u8], b: &[u8]) -> bool
+pub fn same(a: &[u8], b: &[u8]) -> bool
     ensures { λ r. ⌜ r ≡ Entries·same (now (a .entry)) (now (b .entry)) ⌝ }
 {
     if a.len() != b.len() {
