@@ -1,5 +1,6 @@
 -- Laws of texts and schedules.
 pub mod Answers
+pub mod AssembledComputed
 pub mod Capping
 pub mod Cases
 pub mod Chosen

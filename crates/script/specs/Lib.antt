@@ -1,5 +1,6 @@
 -- Schedules as text.
 pub mod Assembled
+pub mod AssembledRows
 pub mod Claims
 pub mod Cursor
 pub mod Decimals
