@@ -1,6 +1,6 @@
 -- The figure to quote: the numbers of demand 3 after a schedule, and what they promise.
 use mathlib.Core.List.{List, _++_}
-use mathlib.Core.Bool.{cond, not}
+use mathlib.Core.Bool.{Bool, cond, not}
 use Prim.Native.Nat.{ℕ}
 use lib.Dec.{eqb}
 use Rattle.text.specs.Numbers.{named, pair}
@@ -18,6 +18,10 @@ heads f = pair (text ", the period\nk ") (f .heads) (text ", the heads that are 
 unfoldable pub boundLine : ℕ → List ℕ
 boundLine most = named (text ", the first of them by starts, rank and number\nbound ") most ++ text " ticks\n"
 
+-- all of them, a line for each
+unfoldable pub numbers : Figures → ℕ → List ℕ
+numbers f most = waits f ++ heads f ++ boundLine most
+
 -- under which conditions
 unfoldable pub conditions : ℕ → ℕ → List ℕ
 conditions d most =
@@ -29,7 +33,7 @@ unfoldable pub promise : ℕ → List ℕ
 promise leader = pair (text " ticks from here on end with a head that is up not trusting station ") leader (text ", and in all others no head but station ") leader ++ text " sends.\n"
 
 unfoldable pub quoted : ℕ → Figures → List ℕ
-quoted d f = waits f ++ heads f ++ boundLine (boundOf d f) ++ conditions d (boundOf d f) ++ promise (f .leader)
+quoted d f = numbers f (boundOf d f) ++ conditions d (boundOf d f) ++ promise (f .leader)
 
 -- where there is none
 unfoldable pub noTable : List ℕ
@@ -42,5 +46,8 @@ unfoldable pub noneUp : List ℕ
 noneUp = text "no head is up\n"
 
 -- the figure of a system, from its figures
-unfoldable pub figure : ℕ → System → Figures → List ℕ
-figure d s f = cond (not (s .ready)) noTable (cond (s .clock) clockTable (cond (eqb (f .heads) 0) noneUp (quoted d f)))
+unfoldable pub figureOf : ℕ → Bool → Bool → Figures → List ℕ
+figureOf d ready clock f = cond (not ready) noTable (cond clock clockTable (cond (eqb (f .heads) 0) noneUp (quoted d f)))
+
+abbrev pub figure : ℕ → System → Figures → List ℕ
+figure d s f = figureOf d (s .ready) (s .clock) f

@@ -1,0 +1,65 @@
+-- The function figure::put_quoted meets its contract.
+use mathlib.Core.List.{_++_}
+use Rattle.figures.specs.Pieces.{boundOf}
+use Rattle.desk.specs.Figure.{numbers, conditions, promise, quoted}
+use Rattle.text.proofs.Parts.{wrote-part, room-at, room-part, room-first, ends-in}
+use borrow.Author.Needs.{needs}
+use Rattle.desk.proofs.figure.put_quoted.Statement.{statement}
+use Rattle.desk.proofs.figure.put_quoted.Tie as tie
+
+put-numbers-requires : tie.Need-put-numbers-requires
+unfolding quoted
+put-numbers-requires c κs = let start = c .before .before .before in rw (c .before .bound-of .ensures) (room-first (numbers (start .args .f) (boundOf (start .args .d) (start .args .f))) (conditions (start .args .d) (boundOf (start .args .d) (start .args .f))) (room-first ((numbers (start .args .f) (boundOf (start .args .d) (start .args .f))) ++ (conditions (start .args .d) (boundOf (start .args .d) (start .args .f)))) (promise (start .args .f .leader)) (start .pre)))
+
+sub-put-conditions : tie.Need-sub-put-conditions
+unfolding quoted
+sub-put-conditions c = let start = c .before .before .before .before .before .before in let one = rw (c .before .before .before .before .bound-of .ensures) at (c .before .before .put-numbers .ensures) in room-at (conditions (start .args .d) (boundOf (start .args .d) (start .args .f))) one (room-first ((numbers (start .args .f) (boundOf (start .args .d) (start .args .f))) ++ (conditions (start .args .d) (boundOf (start .args .d) (start .args .f)))) (promise (start .args .f .leader)) (start .pre))
+
+part-put-conditions-start : tie.Need-part-put-conditions-start
+part-put-conditions-start c = sub-put-conditions c
+
+put-conditions-requires : tie.Need-put-conditions-requires
+unfolding quoted
+put-conditions-requires c κs = let start = c .before .before .before .before .before .before .before in let one = rw (c .before .before .before .before .before .bound-of .ensures) at (c .before .before .before .put-numbers .ensures) in rw (c .before .before .before .before .before .bound-of .ensures) (room-part (conditions (start .args .d) (boundOf (start .args .d) (start .args .f))) one (room-first ((numbers (start .args .f) (boundOf (start .args .d) (start .args .f))) ++ (conditions (start .args .d) (boundOf (start .args .d) (start .args .f)))) (promise (start .args .f .leader)) (start .pre)))
+
+add-b : tie.Need-add-b
+unfolding quoted
+add-b c = let start = c .before .before .before .before .before .before .before .before .before .before in let one = rw (c .before .before .before .before .before .before .before .before .bound-of .ensures) at (c .before .before .before .before .before .before .put-numbers .ensures) in let two = rw (c .before .before .before .before .before .before .before .before .bound-of .ensures) at (c .before .before .put-conditions .ensures) in record { fits = ends-in (wrote-part one two) (room-first ((numbers (start .args .f) (boundOf (start .args .d) (start .args .f))) ++ (conditions (start .args .d) (boundOf (start .args .d) (start .args .f)))) (promise (start .args .f .leader)) (start .pre)) (start .good .1 .1 .0 .0) }
+
+sub-put-promise : tie.Need-sub-put-promise
+unfolding quoted
+sub-put-promise c = let start = c .before .before .before .before .before .before .before .before .before .before in let one = rw (c .before .before .before .before .before .before .before .before .bound-of .ensures) at (c .before .before .before .before .before .before .put-numbers .ensures) in let two = rw (c .before .before .before .before .before .before .before .before .bound-of .ensures) at (c .before .before .put-conditions .ensures) in room-at (promise (start .args .f .leader)) (wrote-part one two) (start .pre)
+
+part-put-promise-start : tie.Need-part-put-promise-start
+part-put-promise-start c = sub-put-promise c
+
+put-promise-requires : tie.Need-put-promise-requires
+unfolding quoted
+put-promise-requires c κs = let start = c .before .before .before .before .before .before .before .before .before .before .before in let one = rw (c .before .before .before .before .before .before .before .before .before .bound-of .ensures) at (c .before .before .before .before .before .before .before .put-numbers .ensures) in let two = rw (c .before .before .before .before .before .before .before .before .before .bound-of .ensures) at (c .before .before .before .put-conditions .ensures) in room-part (promise (start .args .f .leader)) (wrote-part one two) (start .pre)
+
+add-result : tie.Need-add-result
+unfolding quoted
+add-result c = let start = c .before .before .before .before .before .before .before .before .before .before .before .before .before .before in let one = rw (c .before .before .before .before .before .before .before .before .before .before .before .before .bound-of .ensures) at (c .before .before .before .before .before .before .before .before .before .before .put-numbers .ensures) in let two = rw (c .before .before .before .before .before .before .before .before .before .before .before .before .bound-of .ensures) at (c .before .before .before .before .before .before .put-conditions .ensures) in let three = c .before .before .put-promise .ensures in record { fits = ends-in (wrote-part (wrote-part one two) three) (start .pre) (start .good .1 .1 .0 .0) }
+
+returns : tie.Need-returns
+unfolding quoted
+returns c = let start = c .before .before .before .before .before .before .before .before .before .before .before .before .before .before in let one = rw (c .before .before .before .before .before .before .before .before .before .before .before .before .bound-of .ensures) at (c .before .before .before .before .before .before .before .before .before .before .put-numbers .ensures) in let two = rw (c .before .before .before .before .before .before .before .before .before .before .before .before .bound-of .ensures) at (c .before .before .before .before .before .before .put-conditions .ensures) in let three = c .before .before .put-promise .ensures in wrote-part (wrote-part one two) three
+
+pub put-quoted-spec : {M : Type 1} → statement M
+put-quoted-spec =
+    tie.close
+    (tie.spec
+    (λ c κs. search needs)
+    put-numbers-requires
+    sub-put-conditions
+    part-put-conditions-start
+    (λ c. search needs)
+    put-conditions-requires
+    add-b
+    sub-put-promise
+    part-put-promise-start
+    (λ c. search needs)
+    put-promise-requires
+    add-result
+    (λ c. search needs)
+    returns)
