@@ -1,2 +1,3 @@
 -- Laws of what is said.
 pub mod Asking
+pub mod Room
