@@ -1,3 +1,4 @@
 -- Laws of what is said.
 pub mod Asking
+pub mod Computed
 pub mod Room

@@ -28,7 +28,7 @@ add-result c = let start = c .before .before .before .before .before .before .be
 
 returns : tie.Need-returns
 unfolding text boundLine
-returns c = let start = c .before .before .before .before .before .before .before .before .before .before .before in let one = c .before .before .before .before .before .before .before .put-named .ensures in let two = c .before .before .put .ensures in wrote-part one two
+returns c = let one = c .before .before .before .before .before .before .before .put-named .ensures in let two = c .before .before .put .ensures in wrote-part one two
 
 pub put-bound-line-spec : {M : Type 1} → statement M
 put-bound-line-spec =

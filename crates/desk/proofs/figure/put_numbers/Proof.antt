@@ -1,29 +1,36 @@
 -- The function figure::put_numbers meets its contract.
 use mathlib.Core.List.{_++_}
+use Prim.Native.Nat.{_≤_}
+use lib.ListN.{length}
 use Rattle.desk.specs.Figure.{waits, heads, boundLine, numbers}
 use Rattle.text.proofs.Parts.{wrote-part, room-at, room-part, room-first, ends-in}
 use borrow.Author.Needs.{needs}
 use Rattle.desk.proofs.figure.put_numbers.Statement.{statement}
 use Rattle.desk.proofs.figure.put_numbers.Tie as tie
 
+-- the room for the first pieces
+room-two : (start : tie.Start) → length (waits (start .args .f) ++ heads (start .args .f)) ≤ length (start .args .buffer .now)
+unfolding numbers
+room-two start = room-first (waits (start .args .f) ++ heads (start .args .f)) (boundLine (start .args .most)) (start .pre)
+
 put-waits-requires : tie.Need-put-waits-requires
 unfolding numbers
-put-waits-requires c κs = let start = c .before .before in (room-first (waits (start .args .f)) (heads (start .args .f)) (room-first ((waits (start .args .f)) ++ (heads (start .args .f))) (boundLine (start .args .most)) (start .pre)))
+put-waits-requires c κs = let start = c .before .before in (room-first (waits (start .args .f)) (heads (start .args .f)) (room-two start))
 
 sub-put-heads : tie.Need-sub-put-heads
 unfolding numbers
-sub-put-heads c = let start = c .before .before .before .before .before in let one = c .before .before .put-waits .ensures in room-at (heads (start .args .f)) one (room-first ((waits (start .args .f)) ++ (heads (start .args .f))) (boundLine (start .args .most)) (start .pre))
+sub-put-heads c = let start = c .before .before .before .before .before in let one = c .before .before .put-waits .ensures in room-at (heads (start .args .f)) one (room-two start)
 
 part-put-heads-start : tie.Need-part-put-heads-start
 part-put-heads-start c = sub-put-heads c
 
 put-heads-requires : tie.Need-put-heads-requires
 unfolding numbers
-put-heads-requires c κs = let start = c .before .before .before .before .before .before in let one = c .before .before .before .put-waits .ensures in room-part (heads (start .args .f)) one (room-first ((waits (start .args .f)) ++ (heads (start .args .f))) (boundLine (start .args .most)) (start .pre))
+put-heads-requires c κs = let start = c .before .before .before .before .before .before in let one = c .before .before .before .put-waits .ensures in room-part (heads (start .args .f)) one (room-two start)
 
 add-b : tie.Need-add-b
 unfolding numbers
-add-b c = let start = c .before .before .before .before .before .before .before .before .before in let one = c .before .before .before .before .before .before .put-waits .ensures in let two = c .before .before .put-heads .ensures in record { fits = ends-in (wrote-part one two) (room-first ((waits (start .args .f)) ++ (heads (start .args .f))) (boundLine (start .args .most)) (start .pre)) (start .good .1 .1 .0 .0) }
+add-b c = let start = c .before .before .before .before .before .before .before .before .before in let one = c .before .before .before .before .before .before .put-waits .ensures in let two = c .before .before .put-heads .ensures in record { fits = ends-in (wrote-part one two) (room-two start) (start .good .1 .1 .0 .0) }
 
 sub-put-bound-line : tie.Need-sub-put-bound-line
 unfolding numbers
@@ -42,7 +49,7 @@ add-result c = let start = c .before .before .before .before .before .before .be
 
 returns : tie.Need-returns
 unfolding numbers
-returns c = let start = c .before .before .before .before .before .before .before .before .before .before .before .before .before in let one = c .before .before .before .before .before .before .before .before .before .before .put-waits .ensures in let two = c .before .before .before .before .before .before .put-heads .ensures in let three = c .before .before .put-bound-line .ensures in wrote-part (wrote-part one two) three
+returns c = let one = c .before .before .before .before .before .before .before .before .before .before .put-waits .ensures in let two = c .before .before .before .before .before .before .put-heads .ensures in let three = c .before .before .put-bound-line .ensures in wrote-part (wrote-part one two) three
 
 pub put-numbers-spec : {M : Type 1} → statement M
 put-numbers-spec =

@@ -1,4 +1,6 @@
 -- The function figure::put_promise meets its contract.
+use mathlib.Core.List.{List}
+use Prim.Native.Nat.{ℕ}
 use Rattle.text.specs.Numbers.{pair}
 use Rattle.text.specs.Quoted.{text}
 use Rattle.desk.specs.Figure.{promise}
@@ -7,28 +9,32 @@ use borrow.Author.Needs.{needs}
 use Rattle.desk.proofs.figure.put_promise.Statement.{statement}
 use Rattle.desk.proofs.figure.put_promise.Tie as tie
 
+-- what is written first
+abbrev stating : tie.Start → List ℕ
+stating start = pair (text " ticks from here on end with a head that is up not trusting station ") (start .args .leader) (text ", and in all others no head but station ") (start .args .leader)
+
 put-pair-requires : tie.Need-put-pair-requires
 unfolding text promise
-put-pair-requires c κs = let start = c .before .before .before .before in (room-first (pair (text " ticks from here on end with a head that is up not trusting station ") (start .args .leader) (text ", and in all others no head but station ") (start .args .leader)) (text " sends.\n") (start .pre))
+put-pair-requires c κs = let start = c .before .before .before .before in (room-first (stating start) (text " sends.\n") (start .pre))
 
 sub-put : tie.Need-sub-put
 unfolding text promise
-sub-put c = let start = c .before .before .before .before .before .before .before .before in let one = c .before .before .before .put-pair .ensures in room-at (text " sends.\n") one (start .pre)
+sub-put c = let start = c .before .before .before .before .before .before .before .before in let one = c .before .before .before .put-pair .ensures in room-at {l = stating start} (text " sends.\n") one (start .pre)
 
 part-put-start : tie.Need-part-put-start
 part-put-start c = sub-put c
 
 put-requires : tie.Need-put-requires
 unfolding text promise
-put-requires c κs = let start = c .before .before .before .before .before .before .before .before .before in let one = c .before .before .before .before .put-pair .ensures in room-part (text " sends.\n") one (start .pre)
+put-requires c κs = let start = c .before .before .before .before .before .before .before .before .before in let one = c .before .before .before .before .put-pair .ensures in room-part {l = stating start} (text " sends.\n") one (start .pre)
 
 add-result : tie.Need-add-result
 unfolding text promise
-add-result c = let start = c .before .before .before .before .before .before .before .before .before .before .before .before in let one = c .before .before .before .before .before .before .before .put-pair .ensures in let two = c .before .before .put .ensures in record { fits = ends-in (wrote-part one two) (start .pre) (start .good .1 .0 .0) }
+add-result c = let start = c .before .before .before .before .before .before .before .before .before .before .before .before in let one = c .before .before .before .before .before .before .before .put-pair .ensures in let two = c .before .before .put .ensures in record { fits = ends-in (wrote-part {l = stating start} one two) (start .pre) (start .good .1 .0 .0) }
 
 returns : tie.Need-returns
 unfolding text promise
-returns c = let start = c .before .before .before .before .before .before .before .before .before .before .before .before in let one = c .before .before .before .before .before .before .before .put-pair .ensures in let two = c .before .before .put .ensures in wrote-part one two
+returns c = let start = c .before .before .before .before .before .before .before .before .before .before .before .before in let one = c .before .before .before .before .before .before .before .put-pair .ensures in let two = c .before .before .put .ensures in wrote-part {l = stating start} one two
 
 pub put-promise-spec : {M : Type 1} → statement M
 put-promise-spec =

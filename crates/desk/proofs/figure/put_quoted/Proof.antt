@@ -1,5 +1,7 @@
 -- The function figure::put_quoted meets its contract.
 use mathlib.Core.List.{_++_}
+use Prim.Native.Nat.{_≤_}
+use lib.ListN.{length}
 use Rattle.figures.specs.Pieces.{boundOf}
 use Rattle.desk.specs.Figure.{numbers, conditions, promise, quoted}
 use Rattle.text.proofs.Parts.{wrote-part, room-at, room-part, room-first, ends-in}
@@ -7,24 +9,29 @@ use borrow.Author.Needs.{needs}
 use Rattle.desk.proofs.figure.put_quoted.Statement.{statement}
 use Rattle.desk.proofs.figure.put_quoted.Tie as tie
 
+-- the room for the first pieces
+room-two : (start : tie.Start) → length (numbers (start .args .f) (boundOf (start .args .d) (start .args .f)) ++ conditions (start .args .d) (boundOf (start .args .d) (start .args .f))) ≤ length (start .args .buffer .now)
+unfolding quoted
+room-two start = room-first (numbers (start .args .f) (boundOf (start .args .d) (start .args .f)) ++ conditions (start .args .d) (boundOf (start .args .d) (start .args .f))) (promise (start .args .f .leader)) (start .pre)
+
 put-numbers-requires : tie.Need-put-numbers-requires
 unfolding quoted
-put-numbers-requires c κs = let start = c .before .before .before in rw (c .before .bound-of .ensures) (room-first (numbers (start .args .f) (boundOf (start .args .d) (start .args .f))) (conditions (start .args .d) (boundOf (start .args .d) (start .args .f))) (room-first ((numbers (start .args .f) (boundOf (start .args .d) (start .args .f))) ++ (conditions (start .args .d) (boundOf (start .args .d) (start .args .f)))) (promise (start .args .f .leader)) (start .pre)))
+put-numbers-requires c κs = let start = c .before .before .before in rw (c .before .bound-of .ensures) (room-first (numbers (start .args .f) (boundOf (start .args .d) (start .args .f))) (conditions (start .args .d) (boundOf (start .args .d) (start .args .f))) (room-two start))
 
 sub-put-conditions : tie.Need-sub-put-conditions
 unfolding quoted
-sub-put-conditions c = let start = c .before .before .before .before .before .before in let one = rw (c .before .before .before .before .bound-of .ensures) at (c .before .before .put-numbers .ensures) in room-at (conditions (start .args .d) (boundOf (start .args .d) (start .args .f))) one (room-first ((numbers (start .args .f) (boundOf (start .args .d) (start .args .f))) ++ (conditions (start .args .d) (boundOf (start .args .d) (start .args .f)))) (promise (start .args .f .leader)) (start .pre))
+sub-put-conditions c = let start = c .before .before .before .before .before .before in let one = rw (c .before .before .before .before .bound-of .ensures) at (c .before .before .put-numbers .ensures) in room-at (conditions (start .args .d) (boundOf (start .args .d) (start .args .f))) one (room-two start)
 
 part-put-conditions-start : tie.Need-part-put-conditions-start
 part-put-conditions-start c = sub-put-conditions c
 
 put-conditions-requires : tie.Need-put-conditions-requires
 unfolding quoted
-put-conditions-requires c κs = let start = c .before .before .before .before .before .before .before in let one = rw (c .before .before .before .before .before .bound-of .ensures) at (c .before .before .before .put-numbers .ensures) in rw (c .before .before .before .before .before .bound-of .ensures) (room-part (conditions (start .args .d) (boundOf (start .args .d) (start .args .f))) one (room-first ((numbers (start .args .f) (boundOf (start .args .d) (start .args .f))) ++ (conditions (start .args .d) (boundOf (start .args .d) (start .args .f)))) (promise (start .args .f .leader)) (start .pre)))
+put-conditions-requires c κs = let start = c .before .before .before .before .before .before .before in let one = rw (c .before .before .before .before .before .bound-of .ensures) at (c .before .before .before .put-numbers .ensures) in rw (c .before .before .before .before .before .bound-of .ensures) (room-part (conditions (start .args .d) (boundOf (start .args .d) (start .args .f))) one (room-two start))
 
 add-b : tie.Need-add-b
 unfolding quoted
-add-b c = let start = c .before .before .before .before .before .before .before .before .before .before in let one = rw (c .before .before .before .before .before .before .before .before .bound-of .ensures) at (c .before .before .before .before .before .before .put-numbers .ensures) in let two = rw (c .before .before .before .before .before .before .before .before .bound-of .ensures) at (c .before .before .put-conditions .ensures) in record { fits = ends-in (wrote-part one two) (room-first ((numbers (start .args .f) (boundOf (start .args .d) (start .args .f))) ++ (conditions (start .args .d) (boundOf (start .args .d) (start .args .f)))) (promise (start .args .f .leader)) (start .pre)) (start .good .1 .1 .0 .0) }
+add-b c = let start = c .before .before .before .before .before .before .before .before .before .before in let one = rw (c .before .before .before .before .before .before .before .before .bound-of .ensures) at (c .before .before .before .before .before .before .put-numbers .ensures) in let two = rw (c .before .before .before .before .before .before .before .before .bound-of .ensures) at (c .before .before .put-conditions .ensures) in record { fits = ends-in (wrote-part one two) (room-two start) (start .good .1 .1 .0 .0) }
 
 sub-put-promise : tie.Need-sub-put-promise
 unfolding quoted
@@ -43,7 +50,7 @@ add-result c = let start = c .before .before .before .before .before .before .be
 
 returns : tie.Need-returns
 unfolding quoted
-returns c = let start = c .before .before .before .before .before .before .before .before .before .before .before .before .before .before in let one = rw (c .before .before .before .before .before .before .before .before .before .before .before .before .bound-of .ensures) at (c .before .before .before .before .before .before .before .before .before .before .put-numbers .ensures) in let two = rw (c .before .before .before .before .before .before .before .before .before .before .before .before .bound-of .ensures) at (c .before .before .before .before .before .before .put-conditions .ensures) in let three = c .before .before .put-promise .ensures in wrote-part (wrote-part one two) three
+returns c = let one = rw (c .before .before .before .before .before .before .before .before .before .before .before .before .bound-of .ensures) at (c .before .before .before .before .before .before .before .before .before .before .put-numbers .ensures) in let two = rw (c .before .before .before .before .before .before .before .before .before .before .before .before .bound-of .ensures) at (c .before .before .before .before .before .before .put-conditions .ensures) in let three = c .before .before .put-promise .ensures in wrote-part (wrote-part one two) three
 
 pub put-quoted-spec : {M : Type 1} → statement M
 put-quoted-spec =

@@ -28,7 +28,7 @@ add-result c = let start = c .before .before .before .before .before .before .be
 
 returns : tie.Need-returns
 unfolding text complaint
-returns c = let start = c .before .before .before .before .before .before .before .before .before .before .before .before in let one = c .before .before .before .before .before .before .put .ensures in let two = c .before .before .put-refused-in .ensures in wrote-part one two
+returns c = let one = c .before .before .before .before .before .before .put .ensures in let two = c .before .before .put-refused-in .ensures in wrote-part one two
 
 pub put-complaint-spec : {M : Type 1} → statement M
 put-complaint-spec =

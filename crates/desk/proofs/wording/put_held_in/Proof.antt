@@ -1,6 +1,7 @@
 -- The function wording::put_held_in meets its contract.
 use mathlib.Core.List.{_++_}
-use lib.ListN.{drop}
+use Prim.Native.Nat.{_≤_}
+use lib.ListN.{length, drop}
 use Rattle.text.specs.Numbers.{named}
 use Rattle.text.specs.Quoted.{text}
 use Rattle.election.specs.Commands.{decode}
@@ -13,24 +14,29 @@ use borrow.Author.Needs.{needs}
 use Rattle.desk.proofs.wording.put_held_in.Statement.{statement}
 use Rattle.desk.proofs.wording.put_held_in.Tie as tie
 
+-- the room for the first pieces
+room-two : (start : tie.Start) → length (named (text "; line ") (lineHolding (start .args .given .now) (start .args .at)) ++ text ": ") ≤ length (start .args .buffer .now)
+unfolding text heldIn
+room-two start = room-first (named (text "; line ") (lineHolding (start .args .given .now) (start .args .at)) ++ text ": ") (lineOf (decode (drop (start .args .at) (start .args .bytes .now)))) (start .pre .2)
+
 put-named-requires : tie.Need-put-named-requires
 unfolding text heldIn
-put-named-requires c κs = let start = c .before .before .before .before .before .before in rw (c .before .before .line-holding .ensures) (room-first (named (text "; line ") (lineHolding (start .args .given .now) (start .args .at))) (text ": ") (room-first ((named (text "; line ") (lineHolding (start .args .given .now) (start .args .at))) ++ (text ": ")) (lineOf (decode (drop (start .args .at) (start .args .bytes .now)))) (start .pre .2)))
+put-named-requires c κs = let start = c .before .before .before .before .before .before in rw (c .before .before .line-holding .ensures) (room-first (named (text "; line ") (lineHolding (start .args .given .now) (start .args .at))) (text ": ") (room-two start))
 
 sub-put : tie.Need-sub-put
 unfolding text heldIn
-sub-put c = let start = c .before .before .before .before .before .before .before .before .before .before in let one = rw (c .before .before .before .before .before .before .line-holding .ensures) at (c .before .before .before .put-named .ensures) in room-at (text ": ") one (room-first ((named (text "; line ") (lineHolding (start .args .given .now) (start .args .at))) ++ (text ": ")) (lineOf (decode (drop (start .args .at) (start .args .bytes .now)))) (start .pre .2))
+sub-put c = let start = c .before .before .before .before .before .before .before .before .before .before in let one = rw (c .before .before .before .before .before .before .line-holding .ensures) at (c .before .before .before .put-named .ensures) in room-at (text ": ") one (room-two start)
 
 part-put-start : tie.Need-part-put-start
 part-put-start c = sub-put c
 
 put-requires : tie.Need-put-requires
 unfolding text heldIn
-put-requires c κs = let start = c .before .before .before .before .before .before .before .before .before .before .before in let one = rw (c .before .before .before .before .before .before .before .line-holding .ensures) at (c .before .before .before .before .put-named .ensures) in room-part (text ": ") one (room-first ((named (text "; line ") (lineHolding (start .args .given .now) (start .args .at))) ++ (text ": ")) (lineOf (decode (drop (start .args .at) (start .args .bytes .now)))) (start .pre .2))
+put-requires c κs = let start = c .before .before .before .before .before .before .before .before .before .before .before in let one = rw (c .before .before .before .before .before .before .before .line-holding .ensures) at (c .before .before .before .before .put-named .ensures) in room-part (text ": ") one (room-two start)
 
 add-b : tie.Need-add-b
 unfolding text heldIn
-add-b c = let start = c .before .before .before .before .before .before .before .before .before .before .before .before .before .before in let one = rw (c .before .before .before .before .before .before .before .before .before .before .line-holding .ensures) at (c .before .before .before .before .before .before .before .put-named .ensures) in let two = c .before .before .put .ensures in record { fits = ends-in (wrote-part one two) (room-first ((named (text "; line ") (lineHolding (start .args .given .now) (start .args .at))) ++ (text ": ")) (lineOf (decode (drop (start .args .at) (start .args .bytes .now)))) (start .pre .2)) (start .good .1 .1 .1 .0 .0) }
+add-b c = let start = c .before .before .before .before .before .before .before .before .before .before .before .before .before .before in let one = rw (c .before .before .before .before .before .before .before .before .before .before .line-holding .ensures) at (c .before .before .before .before .before .before .before .put-named .ensures) in let two = c .before .before .put .ensures in record { fits = ends-in (wrote-part one two) (room-two start) (start .good .1 .1 .1 .0 .0) }
 
 sub-put-line-2 : tie.Need-sub-put-line-2
 unfolding text heldIn

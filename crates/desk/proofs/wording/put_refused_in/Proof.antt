@@ -28,7 +28,7 @@ add-result c = let start = c .before .before .before .before .before .before .be
 
 returns : tie.Need-returns
 unfolding refusedIn
-returns c = let start = c .before .before .before .before .before .before .before .before .before .before .before in let one = c .before .before .before .before .before .before .put-refused .ensures in let two = c .before .before .put-held-in .ensures in wrote-part one two
+returns c = let one = c .before .before .before .before .before .before .put-refused .ensures in let two = c .before .before .put-held-in .ensures in wrote-part one two
 
 pub put-refused-in-spec : {M : Type 1} → statement M
 put-refused-in-spec =
