@@ -3,4 +3,5 @@ pub mod Asked
 pub mod Figure
 pub mod Rows
 pub mod Said
+pub mod Spoken
 pub mod Wording

@@ -1,7 +1,7 @@
 -- What is said for what was read, and where: on standard output, or on standard error where nothing is rehearsed, assembled, shown or told.
 use mathlib.Core.Path.{_≡_}
 use mathlib.Core.Logic.{_≢_, _⊎_}
-use mathlib.Core.List.{List, _++_}
+use mathlib.Core.List.{List, [], _++_}
 use mathlib.Core.Bool.{cond}
 use Prim.Native.Nat.{ℕ}
 use lib.Dec.{ltb}
@@ -73,10 +73,10 @@ Figuring d given (Read bytes) s =
     ⊎ ((schedule bytes .refusal ≡ 0) × ((f : Figures) × Figured (schedule bytes .system) f × (s ≡ onOutput (figure d (schedule bytes .system) f))))
 Figuring d given (Unread why) s = s ≡ onError why
 
--- what is said in each mode; without a mode nothing is read
+-- what is said in each mode; without one nothing is
 abbrev pub Says : Mode → List ℕ → Saying → Type 0
 Says mode.Rehearse given s = s ≡ rehearsing given (reading given)
 Says mode.Bytes given s = s ≡ assembling (reading given)
 Says mode.Text given s = s ≡ showing (shownText mostText given)
 Says (mode.Figure d) given s = Figuring d given (reading given) s
-Says mode.Nothing given s = ⊥
+Says mode.Nothing given s = s ≡ onOutput []
