@@ -112,7 +112,7 @@ go-sound list room s at bytes =
 abbrev pub rest : System → ℕ → List ℕ → End
 rest s at bytes = follow (length bytes) s at (drop at bytes)
 
-abbrev listings : System → ℕ → List ℕ → List ℕ
+abbrev pub listings : System → ℕ → List ℕ → List ℕ
 listings s at bytes = reports (length bytes) s (drop at bytes)
 
 abbrev whole : System → ℕ → End
@@ -161,21 +161,21 @@ module _ (s : System) (at : ℕ) (bytes : List ℕ) where
   list-accepted = from-accepted _ _ _ _ reports-walks s at bytes
 
 -- what a stop for want of room says of the rest of the schedule, and what another stop says
-record AtFull (bytes : List ℕ) (s : System) (at : ℕ) (h : Halt) : Type 0 where
-  goes-on : rest s at bytes ≡ rest (h .system) (h .offset) bytes
-  lists-more : listings s at bytes ≡ h .listed ++ listings (h .system) (h .offset) bytes
-  within : h .offset < length bytes
+pub record AtFull (bytes : List ℕ) (s : System) (at : ℕ) (h : Halt) : Type 0 where
+  pub goes-on : rest s at bytes ≡ rest (h .system) (h .offset) bytes
+  pub lists-more : listings s at bytes ≡ h .listed ++ listings (h .system) (h .offset) bytes
+  pub within : h .offset < length bytes
 
-record AtEnd (list : Bool) (bytes : List ℕ) (s : System) (at : ℕ) (h : Halt) : Type 0 where
-  ends : rest s at bytes ≡ ending h
-  lists-all : list ≡ true → listings s at bytes ≡ h .listed
+pub record AtEnd (list : Bool) (bytes : List ℕ) (s : System) (at : ℕ) (h : Halt) : Type 0 where
+  pub ends : rest s at bytes ≡ ending h
+  pub lists-all : list ≡ true → listings s at bytes ≡ h .listed
 
-record Stops (list : Bool) (bytes : List ℕ) (room : ℕ) (s : System) (at : ℕ) (h : Halt) : Type 0 where
-  at-full : h .full ≡ true → AtFull bytes s at h
-  at-end : h .full ≡ false → AtEnd list bytes s at h
-  listing-on : h .full ≡ true → list ≡ true
-  not-below : at ≤ h .offset
-  above : h .full ≡ true → longestListing ≤ room → at < h .offset
+pub record Stops (list : Bool) (bytes : List ℕ) (room : ℕ) (s : System) (at : ℕ) (h : Halt) : Type 0 where
+  pub at-full : h .full ≡ true → AtFull bytes s at h
+  pub at-end : h .full ≡ false → AtEnd list bytes s at h
+  pub listing-on : h .full ≡ true → list ≡ true
+  pub not-below : at ≤ h .offset
+  pub above : h .full ≡ true → longestListing ≤ room → at < h .offset
 
 -- what is listed for an accepted report
 text-is : (list : Bool) (s : System) (bytes : List ℕ) → list ≡ true → textOf list s bytes ≡ reported s bytes
@@ -186,7 +186,7 @@ text-is list s bytes e = rw e
 not-both : {A : Type 0} {b : Bool} → b ≡ false → b ≡ true → A
 not-both f t = absurd (true≢false (sym t ∙ f))
 
-stops : (list : Bool) (bytes : List ℕ) (room : ℕ) (s : System) (at : ℕ) → Stops list bytes room s at (goOn list room s at bytes)
+pub stops : (list : Bool) (bytes : List ℕ) (room : ℕ) (s : System) (at : ℕ) → Stops list bytes room s at (goOn list room s at bytes)
 stops list bytes =
     go-all list bytes (Stops list bytes)
     (λ room s at l.
@@ -253,16 +253,16 @@ unfolding schedule
 rest-schedule bytes l = rw (le-ltb mostBytes (length bytes) l)
 
 -- what is to be printed from an offset on: the listings of the rest, and its last line
-unfoldable pub toPrint : System → ℕ → List ℕ → List ℕ
+unfoldable toPrint : System → ℕ → List ℕ → List ℕ
 toPrint s at bytes = listings s at bytes ++ lastLine (rest s at bytes)
 
-pub prints-all : (bytes : List ℕ) → length bytes ≤ mostBytes → toPrint fresh 0 bytes ≡ output bytes
+prints-all : (bytes : List ℕ) → length bytes ≤ mostBytes → toPrint fresh 0 bytes ≡ output bytes
 unfolding toPrint output
 prints-all bytes l = rw (le-ltb mostBytes (length bytes) l, rest-schedule bytes l)
 
 module _ (room : ℕ) (s : System) (at : ℕ) (bytes : List ℕ) where
   -- at a stop for want of room it is what was listed, and what is to be printed from there on; at another, what was listed and the last line
-  pub prints-more : goOn true room s at bytes .full ≡ true
+  prints-more : goOn true room s at bytes .full ≡ true
       → toPrint s at bytes ≡ goOn true room s at bytes .listed ++ toPrint (goOn true room s at bytes .system) (goOn true room s at bytes .offset) bytes
   unfolding toPrint
   prints-more e =
@@ -272,7 +272,7 @@ module _ (room : ℕ) (s : System) (at : ℕ) (bytes : List ℕ) where
       ∙ append-assoc (h .listed) (listings (h .system) (h .offset) bytes) (lastLine (rest s at bytes))
       ∙ ap (λ x. h .listed ++ (listings (h .system) (h .offset) bytes ++ lastLine x)) (f .goes-on)
 
-  pub prints-last : goOn true room s at bytes .full ≡ false → toPrint s at bytes ≡ goOn true room s at bytes .listed ++ lastLine (ending (goOn true room s at bytes))
+  prints-last : goOn true room s at bytes .full ≡ false → toPrint s at bytes ≡ goOn true room s at bytes .listed ++ lastLine (ending (goOn true room s at bytes))
   unfolding toPrint
   prints-last e = let r = stops true bytes room s at .at-end e in rw (r .lists-all refl, r .ends)
 

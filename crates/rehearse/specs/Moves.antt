@@ -5,8 +5,9 @@ use mathlib.Core.List.{List}
 use mathlib.Core.Bool.{true, false}
 use Prim.Native.Nat.{ℕ}
 use lib.IntN.{ℤ}
-use lib.ListN.{length, take, drop}
+use lib.ListN.{length, take}
 use Rattle.calls.specs.Calls.{Failed, Whole, EnoughFor, Taken}
+use Rattle.calls.specs.Next.{ComesNext}
 use Rattle.election.specs.Listing.{output}
 use Rattle.election.specs.Schedule.{mostBytes}
 use Rattle.rehearse.specs.declared.Ran.{Ran}
@@ -18,7 +19,7 @@ Enough = EnoughFor output mostBytes
 
 -- the text comes next in what is to be printed for the schedule
 abbrev pub Next : List ℕ → ℕ → List ℕ → Type 0
-Next bytes done text = take (length text) (drop done (output bytes)) ≡ text
+Next bytes done text = ComesNext (output bytes) done text
 
 -- how the program ended: all was read and printed; a read failed, and nothing was printed; or all was read, and a write took none of what was left
 abbrev pub Ended : Ran → ℤ → ℕ → List ℕ → ℤ → ℕ → Type 0

@@ -9,7 +9,6 @@ use calls::rules::read_whole;
 use libc::STDERR_FILENO;
 
 mod output;
-mod stop;
 
 // How the program ended: all was printed, a read failed, or a write failed.
 pub enum Ran {

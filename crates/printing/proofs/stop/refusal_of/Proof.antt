@@ -2,8 +2,8 @@
 use mathlib.Core.Path.{refl, sym, ap, _∙_}
 use borrow.Author.Needs.{needs}
 use Rattle.simulator.specs.Gone.{refusalOf}
-use Rattle.rehearse.proofs.stop.refusal_of.Statement.{statement}
-use Rattle.rehearse.proofs.stop.refusal_of.Tie as tie
+use Rattle.printing.proofs.stop.refusal_of.Statement.{statement}
+use Rattle.printing.proofs.stop.refusal_of.Tie as tie
 
 returns : tie.Need-returns
 returns c = rw (c .enum-told .given .1) refl

@@ -1,0 +1,2 @@
+-- The listings of a schedule, printed.
+pub mod Listings
