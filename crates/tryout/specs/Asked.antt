@@ -7,8 +7,8 @@ use lib.ListN.{length, getD, take}
 use Rattle.fit.specs.Fit.{within}
 use Rattle.text.specs.Hex.{Spelled, spelled}
 use Rattle.election.specs.Commands.{decode, operands, lastCommand}
-use Rattle.tryout.specs.declared.arguments.Asked.{Asked}
-use Rattle.tryout.specs.declared.arguments.Asked.the-variants as code
+use Rattle.tryout.specs.declared.command.Asked.{Asked}
+use Rattle.tryout.specs.declared.command.Asked.the-variants as code
 
 -- the bytes of a command; or there are none, or bytes are left over behind it, or it is no hex
 pub data Asking : Type 0 where

@@ -6,16 +6,16 @@ ghost use Rattle.calls.specs.Calls.{Taken};
 ghost use Rattle.election.specs.Schedule.{mostBytes};
 ghost use Rattle.tryout.specs.Moves.{Ended};
 ghost use Rattle.tryout.specs.Told.{said, descriptor};
-use crate::arguments::Asked;
-use crate::arguments::gather;
-use crate::arguments::read_command;
+use crate::command::Asked;
+use crate::command::read_command;
 use crate::told::put_said;
+use arguments::gather;
 use calls::rules::read_whole;
 use calls::rules::write_text;
 use libc::STDERR_FILENO;
 use libc::STDOUT_FILENO;
 
-mod arguments;
+mod command;
 mod told;
 
 // How the program ended: all was said on standard output, or of a refused schedule on standard error; a read failed, or a write failed.

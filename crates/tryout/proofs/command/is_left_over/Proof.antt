@@ -1,4 +1,4 @@
--- The function arguments::is_left_over meets its contract.
+-- The function command::is_left_over meets its contract.
 use mathlib.Core.List.{[], _∷_}
 use lib.ListN.{getD}
 use Rattle.election.specs.Commands.{decode}
@@ -6,8 +6,8 @@ use native.Mathlib.Omega.{arith}
 use Rattle.tryout.proofs.Asking.{over-none, over-known, over-zero, over-above}
 use Rattle.tryout.proofs.Room.{few-operands}
 use borrow.Author.Needs.{needs}
-use Rattle.tryout.proofs.arguments.is_left_over.Statement.{statement}
-use Rattle.tryout.proofs.arguments.is_left_over.Tie as tie
+use Rattle.tryout.proofs.command.is_left_over.Statement.{statement}
+use Rattle.tryout.proofs.command.is_left_over.Tie as tie
 
 returns : tie.Need-returns
 returns c = over-none (c .before .before .args .bytes .now) (c .if1 .taken)

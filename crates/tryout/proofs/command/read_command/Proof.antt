@@ -1,12 +1,12 @@
--- The function arguments::read_command meets its contract.
+-- The function command::read_command meets its contract.
 use mathlib.Core.Path.{sym, _∙_}
 use native.Mathlib.Omega.{arith}
 use lib.Seq.{length-take-le}
 use borrow.Author.Tests.{not-true, not-false}
 use Rattle.tryout.proofs.Asking.{no-hex, no-bytes, left-over, one-command, taken-some}
 use borrow.Author.Needs.{needs}
-use Rattle.tryout.proofs.arguments.read_command.Statement.{statement}
-use Rattle.tryout.proofs.arguments.read_command.Tie as tie
+use Rattle.tryout.proofs.command.read_command.Statement.{statement}
+use Rattle.tryout.proofs.command.read_command.Tie as tie
 
 returns : tie.Need-returns
 returns c = let read = c .before .before .before .before .read-hex in (no-hex _ _ _ (read .ensures .0) (not-true _ (c .if1 .taken)), omega arith)

@@ -1,12 +1,12 @@
--- The function arguments::gather meets its contract.
+-- The function gather meets its contract.
 use mathlib.Core.Path.{_≡_, refl, _∙_}
 use Prim.Native.Nat.{_-_, _≤_}
 use native.Mathlib.Omega.{arith}
 use lib.ListN.{length}
 use borrow.Rule.Slice.PartMut.{same-len-mid, mid-len}
 use borrow.Author.Needs.{needs}
-use Rattle.tryout.proofs.arguments.gather.Statement.{statement}
-use Rattle.tryout.proofs.arguments.gather.Tie as tie
+use Rattle.arguments.proofs.gather.Statement.{statement}
+use Rattle.arguments.proofs.gather.Tie as tie
 
 abbrev Inv-loop : tie.InvT-loop
 Inv-loop line₀ at₀ k₀ k-end line at k = (at ≤ length line) × (length line ≡ length line₀)
