@@ -1,6 +1,9 @@
 -- Laws of what is said.
 pub mod Asking
 pub mod Computed
+pub mod Figuring
 pub mod Preparing
+pub mod Rehearsing
 pub mod Room
+pub mod Rooms
 pub mod Saying

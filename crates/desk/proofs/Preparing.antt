@@ -1,9 +1,11 @@
 -- Laws of a text that is read: too long, wrong in a line, or a schedule.
 use mathlib.Core.Path.{_≡_, refl, sym, ap, subst, _∙_}
 use mathlib.Core.List.{List}
+use mathlib.Core.Bool.{Bool, true, false, cond}
 use Prim.Native.Nat.{ℕ, _<_, _≤_}
 use native.Mathlib.Omega.{arith}
 use borrow.Author.Tests.{lt-ltb, le-ltb}
+use lib.Dec.{ltb}
 use lib.ListN.{length, take}
 use Rattle.lists.specs.Entries.{over}
 use Rattle.lists.proofs.Entries.{take-over, length-over}
@@ -66,3 +68,13 @@ module _ (given bytes : List ℕ) (short : length given ≤ mostText) (room : le
             is = ap Unread (wrote-front w ∙ ap (λ x. wrongLine x why) number ∙ ap (wrongLine j) reason) ∙ sym (as-script ∙ ap ofScript f);
             inside = wrote-inside w;
           }
+
+-- a text that is read has no more bytes than a schedule
+pub read-few : (given bytes : List ℕ) → reading given ≡ Read bytes → length bytes ≤ mostBytes
+unfolding reading
+read-few given bytes e = which (ltb mostText (length given)) (script mostBytes given) refl e
+  where
+    which : (b : Bool) (s : Script) → script mostBytes given ≡ s → cond b (Unread longText) (ofScript s) ≡ Read bytes → length bytes ≤ mostBytes
+    which true s f g = let z : _≡_ {A = ℕ} 0 1 = cc in absurd (omega arith)
+    which false (Schedule bs) f g = let z : bytes ≡ bs = cc in rw z (gives-bytes mostBytes given bs f .few)
+    which false (WrongAt k why) f g = let z : _≡_ {A = ℕ} 0 1 = cc in absurd (omega arith)

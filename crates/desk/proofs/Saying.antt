@@ -1,10 +1,12 @@
 -- Laws of what is said, from a text that was read and from what was shown.
 use mathlib.Core.Path.{_≡_, refl, sym, ap, _∙_}
 use mathlib.Core.List.{List}
+use mathlib.Core.Bool.{Bool, true, false, not}
 use Prim.Native.Nat.{ℕ, _≤_}
 use native.Mathlib.Omega.{arith}
 use lib.IntN.{ℤ, pos}
 use lib.ListN.{length, take, drop, length-append}
+use Rattle.calls.proofs.Calls.{taken-all, taken-some}
 use Rattle.lists.specs.Entries.{over}
 use Rattle.lists.proofs.Entries.{take-over}
 use Rattle.text.specs.Wrote.{Wrote}
@@ -13,8 +15,9 @@ use Rattle.script.specs.Shown.{Showing, Text, NoneAt, shownText, Left, leaving,
 use Rattle.script.specs.declared.NoText.{NoText}
 use Rattle.script.specs.declared.Shown.the-variants.{Done, Refused}
 use Rattle.desk.specs.Said.{mostText, Reading, Read, Unread, reading, Saying, Says, assembling, showing, onError}
-use Rattle.desk.specs.Spoken.{Prepares}
+use Rattle.desk.specs.Spoken.{Prepares, Spoken}
 use Rattle.desk.specs.Wording.{noText}
+use Rattle.desk.specs.declared.asked.Mode.{Mode}
 use Rattle.desk.specs.declared.asked.Mode.the-variants as mode
 use Rattle.desk.specs.declared.said.Prepared.{Prepared}
 use Rattle.desk.specs.declared.said.Prepared.the-variants as code
@@ -71,3 +74,10 @@ says-text given line e = rw e
 
 pub says-no-text : (given : List ℕ) (at : ℕ) (why : NoText) {old line : List ℕ} {n : ℕ} → shownText mostText given ≡ NoneAt at why → Wrote (noText at why) old n line → Says mode.Text given (record { out = pos 2; text = take n line })
 says-no-text given at why e w = rw e (ap onError (wrote-front w))
+
+-- what is said was taken whole, or some of it is left
+pub all-spoken : {m : Mode} {given : List ℕ} {b : Bool} {put : ℤ} {done : ℕ} → Spoken m given b put done → not b ≡ false → Spoken m given true put done
+all-spoken {b = b} s h = record { saying = s .saying; says = s .says; taken = taken-all b _ (s .taken) h }
+
+pub some-unspoken : {m : Mode} {given : List ℕ} {b : Bool} {put : ℤ} {done : ℕ} → Spoken m given b put done → not b ≡ true → Spoken m given false put done
+some-unspoken {b = b} s h = record { saying = s .saying; says = s .says; taken = taken-some b _ (s .taken) h }

@@ -34,13 +34,29 @@ pub record Spoken (m : Mode) (given : List ℕ) (all : Bool) (put : ℤ) (done :
   pub says : Says m given saying
   pub taken : Taken all put done (length (saying .text))
 
--- the room to read into, a byte more than is read, and the room for what is made of it
-abbrev pub Room : Mode → ℕ → ℕ → Type 0
-Room mode.Rehearse space spare = (mostText < space) × (spare ≡ mostBytes)
-Room mode.Bytes space spare = (mostText < space) × (spare ≡ mostBytes)
-Room mode.Text space spare = (mostBytes < space) × (spare ≡ mostText)
-Room (mode.Figure d) space spare = (mostText < space) × (spare ≡ mostBytes)
-Room mode.Nothing space spare = Unit {0}
+-- bytes are read, and a text is made of them
+abbrev pub isText : Mode → Bool
+isText mode.Rehearse = false
+isText mode.Bytes = false
+isText mode.Text = true
+isText (mode.Figure d) = false
+isText mode.Nothing = false
+
+-- the room to read into: a byte more than matters
+abbrev pub SpaceFor : Mode → ℕ → Type 0
+SpaceFor mode.Rehearse space = mostText < space
+SpaceFor mode.Bytes space = mostText < space
+SpaceFor mode.Text space = mostBytes < space
+SpaceFor (mode.Figure d) space = mostText < space
+SpaceFor mode.Nothing space = Unit {0}
+
+-- and the room for what is made of it
+abbrev pub SpareFor : Mode → ℕ → Type 0
+SpareFor mode.Rehearse spare = spare ≡ mostBytes
+SpareFor mode.Bytes spare = spare ≡ mostBytes
+SpareFor mode.Text spare = spare ≡ mostText
+SpareFor (mode.Figure d) spare = spare ≡ mostBytes
+SpareFor mode.Nothing spare = Unit {0}
 
 -- how the program ended, once it was asked for something: all was read and said; a read failed, and nothing was said; or all was read, and a write took none of
 -- what was left. `got` is what the last read answered, `size` how many bytes were read to the front of `space`.

@@ -25,7 +25,7 @@ pub enum Prepared {
 }
 
 // Reads a text: its bytes come to the front of one buffer, what is wrong with it to the front of the other.
-fn prepare(given: &[u8], bytes: &mut [u8], line: &mut [u8]) -> Prepared
+pub fn prepare(given: &[u8], bytes: &mut [u8], line: &mut [u8]) -> Prepared
     requires { ⌜ (length (now bytes) ≡ mostBytes) × (200 ≤ length (now line)) ⌝ }
     ensures { λ r. ⌜ Prepares (now (given .entry)) r (now (bytes .exit)) (now (line .exit)) ⌝ }
 {
@@ -40,7 +40,14 @@ fn prepare(given: &[u8], bytes: &mut [u8], line: &mut [u8]) -> Prepared
 }
 
 // Says a text on a descriptor, in as many writes as it takes; answers whether all of it was taken.
-fn say(mode: Mode, given: &[u8], fd: i32, text: &[u8], done: &mut usize, put: &mut isize) -> bool
+pub fn say(
+    mode: Mode,
+    given: &[u8],
+    fd: i32,
+    text: &[u8],
+    done: &mut usize,
+    put: &mut isize,
+) -> bool
     requires { ⌜ Says mode (now given) (record { out = fd; text = now text }) ⌝ }
     requires { ⌜ now done ≡ 0 ⌝ }
     ensures { λ r. ⌜ Spoken mode (now (given .entry)) r (now (put .exit)) (now (done .exit)) ⌝ }

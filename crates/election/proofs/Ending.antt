@@ -47,3 +47,14 @@ accepted-whole bytes e = schedule-ends bytes (λ i. omega arith) .accepted e
 
 pub refused-inside : RefusedInside
 refused-inside bytes e ne = schedule-ends bytes ne .refused e
+
+-- either way not past its end
+pub offset-inside : (bytes : List ℕ) → schedule bytes .offset ≤ length bytes
+unfolding schedule
+offset-inside bytes =
+    cond-elim (λ (e : End). e .offset ≤ length bytes) (ltb mostBytes (length bytes)) (λ t. omega arith)
+    (λ t. within (follow (length bytes) fresh 0 bytes) (follow-ends (length bytes) fresh 0 bytes (length bytes) (omega arith) (omega arith)) (ℕ-discrete (follow (length bytes) fresh 0 bytes .refusal) 0))
+  where
+    within : (e : End) → Ends (length bytes) e → Dec (e .refusal ≡ 0) → e .offset ≤ length bytes
+    within e ends (yes z) = omega (arith, ends .accepted z)
+    within e ends (no z) = omega (arith, ends .refused z)
