@@ -1,6 +1,7 @@
 -- Laws of what is said.
 pub mod Asking
 pub mod Computed
+pub mod Enough
 pub mod Figuring
 pub mod Preparing
 pub mod Rehearsing

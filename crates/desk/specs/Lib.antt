@@ -1,5 +1,6 @@
 -- What the program desk is asked, and what it says.
 pub mod Asked
+pub mod Claims
 pub mod Figure
 pub mod Rows
 pub mod Said
