@@ -5,6 +5,7 @@
 mod desk;
 mod program;
 mod random;
+mod reasons;
 mod schedule;
 mod search;
 mod tryout;
