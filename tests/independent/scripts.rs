@@ -26,7 +26,7 @@ const MOST_PRINTED: usize = 300; // characters of what was printed
 type Row = (&'static str, &'static [u8], &'static str, &'static str);
 
 /// What the program must say, word for word.
-const ROWS: [Row; 90] = [
+const ROWS: [Row; 93] = [
     // lines
     ("", b"", "end\n", ""),
     ("", b"\n", "end\n", ""),
@@ -53,6 +53,7 @@ const ROWS: [Row; 90] = [
     ("", b"report.", "", "desk: line 1: unknown word\n"),
     ("", b"report\x00", "", "desk: line 1: unknown word\n"),
     ("", b"report\x0b", "", "desk: line 1: unknown word\n"),
+    ("", b"report\x0c", "", "desk: line 1: unknown word\n"),
     ("", b"\xef\xbb\xbfreport", "", "desk: line 1: unknown word\n"),
     ("", b"set", "", "desk: line 1: unknown word\n"),
     ("", b"set 2 16", "", "desk: line 1: unknown word\n"),
@@ -64,6 +65,8 @@ const ROWS: [Row; 90] = [
     ("", b"start -1", "", "desk: line 1: unknown word\n"),
     ("", b"start +1", "", "desk: line 1: unknown word\n"),
     ("", b"start 0x1", "", "desk: line 1: unknown word\n"),
+    ("", b"start 1:", "", "desk: line 1: unknown word\n"),
+    ("", b"start 1/", "", "desk: line 1: unknown word\n"),
     ("", b"start 1\xc2\xa0", "", "desk: line 1: unknown word\n"),
     ("", b"run 1,000", "", "desk: line 1: unknown word\n"),
     ("", b"1", "", "desk: line 1: unknown word\n"),
@@ -318,6 +321,35 @@ fn rows(tally: &mut Tally, program: &str) {
         tally.compare(program, &arguments, text, 100, &due(&arguments, text), &format!("script-figure-{ticks}.in"));
         tally.reach("figures for a number of ticks");
     }
+}
+
+/// Each character before, inside and behind a command, each byte as a command, and each number.
+fn each_byte(tally: &mut Tally, program: &str) {
+    for byte in 0..=255 {
+        for (name, text) in [
+            ("before", [&[byte][..], b"report\nreport"].concat()),
+            ("inside", [b"start", &[byte][..], b"1\nreport"].concat()),
+            ("behind", [b"start 1", &[byte][..], b"\nreport"].concat()),
+        ] {
+            let kept = format!("script-byte-{byte}-{name}.txt");
+            tally.compare(program, &["bytes"], &text, 100, &due(&["bytes"], &text), &kept);
+            tally.reach("texts with each byte");
+        }
+        let bytes = [byte, 1, 1, 1, byte];
+        tally.compare(program, &["text"], &bytes, 100, &due(&["text"], &bytes), &format!("script-byte-{byte}.bin"));
+        tally.reach("schedules with each byte");
+    }
+    let mut bytes = Vec::new();
+    for number in 0..=255 {
+        for command in 1..=9 {
+            bytes.push(command);
+            for place in 0..WIDTHS[command as usize] {
+                bytes.push(if command == RUN && place == 1 { 1 } else { number });
+            }
+        }
+        bytes.extend([RUN, 255, number, LINK, number, 1, 0]);
+    }
+    schedule_both_ways(tally, program, &bytes, bytes.len(), "script-each-number.bin");
 }
 
 /// So many bytes of a line that says nothing but for its end.
@@ -874,6 +906,7 @@ fn main() {
     let (count, seed, program) = (numbers[0], numbers[1], &words[3]);
     let mut tally = Tally::default();
     rows(&mut tally, program);
+    each_byte(&mut tally, program);
     long_inputs(&mut tally, program, &mut Random(seed));
     for number in 1..=count {
         let mut random = Random(Random(seed).next().rotate_left(16) ^ number.wrapping_mul(0xD1B5_4A32_D192_ED03));
