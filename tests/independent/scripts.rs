@@ -132,7 +132,9 @@ const ROWS: [Row; 93] = [
          k 2, the heads that are up\n\
          L 2, the first of them by starts, rank and number\n\
          bound 47 ticks\n\
-         As long as no head starts or crashes, no message between heads that are up is lost or cut, and each message to one of them, under way or sent later, takes at most 3 ticks more, at most 47 ticks from here on end with a head that is up not trusting station 2, and in all others no head but station 2 sends.\n",
+         As long as no head starts or crashes, no message between heads that are up is lost or cut, and each message \
+         to one of them, under way or sent later, takes at most 3 ticks more, at most 47 ticks from here on end with \
+         a head that is up not trusting station 2, and in all others no head but station 2 sends.\n",
         "",
     ),
     ("figure 1", b"", "nothing is set up\n", ""),
@@ -399,7 +401,10 @@ fn long_texts() -> Vec<(String, Vec<u8>)> {
     add("a line of 65,536 characters, spaces", with(filled(long, b' ', b"")));
     add("a line of 65,536 characters, tabs", with(filled(long, b'\t', b"start 2")));
     add("a line of 65,536 characters, carriage returns", with([b"start 2".to_vec(), vec![b'\r'; long - 7]].concat()));
-    let zeros = |name: &str, end: &str| [name.as_bytes().to_vec(), filled(long - name.len(), b'0', end.as_bytes())].concat();
+    let zeros = |name: &str, end: &str| {
+        let digits = filled(long - name.len(), b'0', end.as_bytes());
+        [name.as_bytes().to_vec(), digits].concat()
+    };
     add("a line of 65,536 characters, start 0..01", with(zeros("start ", "1")));
     add("a line of 65,536 characters, start 0..0", with(zeros("start ", "")));
     add("a line of 65,536 characters, start 0..0255", with(zeros("start ", "255")));
@@ -559,7 +564,8 @@ const UNKNOWN: [&[u8]; 31] = [
 
 const NUMBERS: [&str; 25] = [
     "0", "1", "2", "7", "8", "9", "15", "16", "254", "255", "256", "257", "511", "512", "999", "65535", "65536", "999999",
-    "1000000", "1000001", "9999999", "10000000", "4294967297", "18446744073709551617", "340282366920938463463374607431768211457",
+    "1000000", "1000001", "9999999", "10000000", "4294967297", "18446744073709551617",
+    "340282366920938463463374607431768211457",
 ];
 
 const NAMES: [&str; 12] =
