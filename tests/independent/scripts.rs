@@ -445,6 +445,11 @@ fn long_texts() -> Vec<(String, Vec<u8>)> {
         text.extend(format!("run {ticks}\n").bytes());
         add(&format!("a run of {ticks} ticks where {left} bytes are left"), text);
     }
+    let mut most = b"set up 8 255\n".to_vec();
+    (1..=8).for_each(|head| most.extend(format!("start {head}\n").bytes()));
+    most.extend(b"run 65535\n");
+    most.extend(b"report\n".repeat(LONGEST_SCHEDULE - 22));
+    add("as many reports as there can be", most);
     add("a refusal in the last line", [set_up.clone(), b"start 1\ncrash 1\n".repeat(4095), b"start 1".to_vec()].concat());
     all
 }
