@@ -205,11 +205,14 @@ pub enum Asked {
 
 /// None if they are wrong, and a usage is due.
 pub fn asked(arguments: &[&str]) -> Option<Asked> {
-    match arguments {
+    // Blanks in arguments part words as those between them do, and an empty argument has no word.
+    let words = arguments.iter().flat_map(|argument| argument.split([' ', '\t', '\r']));
+    let words: Vec<&str> = words.filter(|word| !word.is_empty()).collect();
+    match words[..] {
         [] => Some(Asked::Rehearse),
         ["bytes"] => Some(Asked::Bytes),
         ["text"] => Some(Asked::Text),
-        ["figure", ticks] if !ticks.is_empty() => {
+        ["figure", ticks] => {
             let ticks = number_of(ticks.as_bytes()).ok()??;
             (1..=LONGEST_FIGURE).contains(&ticks).then_some(Asked::Figure(ticks))
         }

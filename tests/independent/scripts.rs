@@ -171,9 +171,7 @@ const ROWS: [Row; 93] = [
 ];
 
 /// Arguments that are wrong.
-const WRONG: [&[&str]; 34] = [
-    &[""],
-    &["", ""],
+const WRONG: [&[&str]; 32] = [
     &["byte"],
     &["bytess"],
     &["Bytes"],
@@ -181,7 +179,6 @@ const WRONG: [&[&str]; 34] = [
     &["bytes", "bytes"],
     &["bytes", "3"],
     &["text", "text"],
-    &["text", ""],
     &["Text"],
     &["texts"],
     &["tex"],
@@ -206,7 +203,12 @@ const WRONG: [&[&str]; 34] = [
     &["3", "figure"],
     &["--help"],
     &["rehearse"],
+    &["bytes text"],
 ];
+
+/// Arguments with blanks in them, and empty ones.
+const SPACED: [&[&str]; 8] =
+    [&[""], &["", " "], &[" bytes"], &["bytes", ""], &["figure 3"], &["figure", "", "3"], &["\tfigure", "3 "], &["figure\r3"]];
 
 /// What was compared, and what was reached.
 #[derive(Default)]
@@ -316,6 +318,12 @@ fn rows(tally: &mut Tally, program: &str) {
         let kept = format!("script-arguments-{number}.in");
         tally.compare(program, arguments, b"set up 2 16\nreport\n", 100, &Due::Usage, &kept);
         tally.reach("wrong arguments");
+    }
+    for (number, &arguments) in (1..).zip(&SPACED) {
+        let text = b"set up 2 16\nstart 1\nreport\n";
+        let kept = format!("script-spaced-{number}.txt");
+        tally.compare(program, arguments, text, 100, &due(arguments, text), &kept);
+        tally.reach("arguments with blanks");
     }
     for ticks in ["1", "2", "9", "10", "99", "100", "254", "255", "007", "0255"] {
         let arguments = ["figure", ticks];
