@@ -10,7 +10,7 @@ use Rattle.script.specs.Cursor.{Next}
 use Rattle.script.specs.Decimals.{numbers}
 use Rattle.script.specs.Entries.{same}
 use Rattle.script.specs.Split.{words}
-use Rattle.script.specs.declared.numbers.Numbers.the-variants.{Three}
+use Rattle.script.specs.declared.rules.numbers.Numbers.the-variants.{Three}
 use Rattle.script.proofs.Sizes.{UpTo, numbers-small}
 use Rattle.desk.specs.Asked.{alone, delayOf, ofWords, asking}
 use Rattle.desk.specs.declared.asked.Mode.{Mode}

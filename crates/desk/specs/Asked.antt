@@ -6,8 +6,8 @@ use Rattle.text.specs.Quoted.{text}
 use Rattle.script.specs.Decimals.{numbers}
 use Rattle.script.specs.Entries.{same}
 use Rattle.script.specs.Split.{words}
-use Rattle.script.specs.declared.numbers.Numbers.{Numbers}
-use Rattle.script.specs.declared.numbers.Numbers.the-variants as read
+use Rattle.script.specs.declared.rules.numbers.Numbers.{Numbers}
+use Rattle.script.specs.declared.rules.numbers.Numbers.the-variants as read
 use Rattle.desk.specs.declared.asked.Mode.{Mode}
 use Rattle.desk.specs.declared.asked.Mode.the-variants.{Rehearse, Bytes, Text, Figure, Nothing}
 

@@ -6,10 +6,10 @@ ghost use Rattle.script.specs.Decimals.{numbers};
 ghost use Rattle.script.specs.Split.{words};
 ghost use Rattle.desk.specs.Asked.{alone as Asked·alone};
 ghost use Rattle.desk.specs.Asked.{delayOf, asking};
-use script::finding::same;
-use script::numbers::Numbers;
-use script::numbers::read_numbers;
-use script::words::word_at;
+use script::rules::finding::same;
+use script::rules::numbers::Numbers;
+use script::rules::numbers::read_numbers;
+use script::rules::words::word_at;
 
 // Rehearse a text; write its bytes; write the text of bytes; tell the figure for delays up to so many ticks; or the arguments ask for nothing that there is.
 pub enum Mode {

@@ -9,8 +9,8 @@ ghost use Rattle.desk.specs.Wording.{wrongness, wrongLine, textless, noT
 use election::Refusal;
 use script::NoText;
 use script::Why;
-use script::places::line_holding;
-use script::written::put_line;
+use script::rules::places::line_holding;
+use script::rules::written::put_line;
 use simulator::rules::Stop;
 use text::rules::put;
 use text::rules::put_named;

@@ -13,7 +13,7 @@ use lib.Seq.{take-suc, take-all}
 use Rattle.fit.specs.Fit.{within}
 use Rattle.lists.proofs.Bools.{both, false-unless}
 use Rattle.script.specs.Decimals.{isNumber, valueFrom, valueOf, capped, valued}
-use Rattle.script.specs.declared.numbers.Value.the-variants.{Number, NotNumber}
+use Rattle.script.specs.declared.rules.numbers.Value.the-variants.{Number, NotNumber}
 
 pub capped-small : (x : ℕ) → x ≤ 1000000 → capped x ≡ x
 capped-small x h = rw (le-leb x 1000000 h)

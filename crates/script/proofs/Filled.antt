@@ -10,8 +10,8 @@ use Rattle.text.proofs.Parts.{wrote-none, wrote-part, wrote-length}
 use Rattle.election.specs.Commands.{decode, operands}
 use Rattle.script.specs.Pieces.{found, whole, textOf, HasText}
 use Rattle.script.specs.Shown.{lineOf, Showing, Text, NoneAt, behind}
-use Rattle.script.specs.declared.showing.Found.{Found}
-use Rattle.script.specs.declared.showing.Found.the-variants.{Line, Stop}
+use Rattle.script.specs.declared.rules.showing.Found.{Found}
+use Rattle.script.specs.declared.rules.showing.Found.the-variants.{Line, Stop}
 use Rattle.script.proofs.Onward.{led, Here, here, rest, next, rest-none, turn, lent, lent-width}
 
 -- a text behind another, and both behind a third

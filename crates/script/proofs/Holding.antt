@@ -13,7 +13,7 @@ use Rattle.script.specs.Meanings.{bytesOf}
 use Rattle.script.specs.Passes.{LineAt}
 use Rattle.script.specs.Places.{holdingFrom, lineHolding}
 use Rattle.script.specs.Split.{lines}
-use Rattle.script.specs.declared.lines.Line.{Line}
+use Rattle.script.specs.declared.rules.lines.Line.{Line}
 
 -- no line so far holds it
 pub record NotTo (text : List ℕ) (offset at passed size : ℕ) : Type 0 where

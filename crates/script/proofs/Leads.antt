@@ -14,7 +14,7 @@ use borrow.Author.Tests.{not-true}
 use Rattle.text.specs.Hex.{isBlank}
 use Rattle.script.specs.Cursor.{Next}
 use Rattle.script.specs.Split.{onto, lines, goesOn, words, inside, lead, rest}
-use Rattle.script.specs.declared.words.Part.the-variants.{Blanks, Word, Line}
+use Rattle.script.specs.declared.rules.words.Part.the-variants.{Blanks, Word, Line}
 
 -- the first characters and what is left are the text
 module _ (t : ℕ → Bool) where

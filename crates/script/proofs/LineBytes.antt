@@ -15,8 +15,8 @@ use Rattle.text.proofs.Parts.{wrote-none, wrote-part}
 use Rattle.script.specs.Encoded.{encode, encodeAll}
 use Rattle.script.specs.Entries.{longestRun, runs, mostRuns}
 use Rattle.script.specs.Meanings.{Proper, bytesOf, longestLine}
-use Rattle.script.specs.declared.lines.Line.{Line}
-use Rattle.script.specs.declared.lines.Line.the-variants as code
+use Rattle.script.specs.declared.rules.lines.Line.{Line}
+use Rattle.script.specs.declared.rules.lines.Line.the-variants as code
 use Rattle.script.proofs.Cases.{ten}
 use Rattle.script.proofs.Coded.{length-encode, encode-decode}
 

@@ -18,11 +18,11 @@ use Rattle.script.specs.Split.{words}
 use Rattle.script.specs.Tabled.{runByte, Tabled}
 use Rattle.script.specs.declared.Why.{Why}
 use Rattle.script.specs.declared.Why.the-variants.{UnknownWord, NumberRange}
-use Rattle.script.specs.declared.entries.Entry.{Entry}
-use Rattle.script.specs.declared.lines.Line.{Line}
-use Rattle.script.specs.declared.lines.Line.the-variants as code
-use Rattle.script.specs.declared.numbers.Numbers.{Numbers}
-use Rattle.script.specs.declared.numbers.Numbers.the-variants as read
+use Rattle.script.specs.declared.rules.entries.Entry.{Entry}
+use Rattle.script.specs.declared.rules.lines.Line.{Line}
+use Rattle.script.specs.declared.rules.lines.Line.the-variants as code
+use Rattle.script.specs.declared.rules.numbers.Numbers.{Numbers}
+use Rattle.script.specs.declared.rules.numbers.Numbers.the-variants as read
 use Rattle.script.proofs.Sizes.{UpTo, numbers-small}
 
 -- the numbers that aren't asked for are 0

@@ -20,9 +20,9 @@ use Rattle.script.specs.Decimals.{isNumber, shift, numbers}
 use Rattle.script.specs.Entries.{Entry, longestRun, runs, table, none, entry, same, begins, firstFrom}
 use Rattle.script.specs.Shown.{entryOf, numbersOf, spaced, written, isIdle}
 use Rattle.script.specs.Split.{goesOn, words, inside, lead}
-use Rattle.script.specs.declared.numbers.Numbers.{Numbers}
-use Rattle.script.specs.declared.numbers.Numbers.the-variants.{Three}
-use Rattle.script.specs.declared.words.Part.the-variants.{Word, Uncommented, Line}
+use Rattle.script.specs.declared.rules.numbers.Numbers.{Numbers}
+use Rattle.script.specs.declared.rules.numbers.Numbers.the-variants.{Three}
+use Rattle.script.specs.declared.rules.words.Part.the-variants.{Word, Uncommented, Line}
 use Rattle.script.proofs.Splitting.{Each, lead-each, lead-all, words-append, words-one}
 use Rattle.script.proofs.Values.{is-within, number-decimal, some-decimal, value-decimal, each-digit, digit-word, digit-uncommented, digit-line}
 

@@ -11,8 +11,8 @@ use Rattle.script.specs.Shown.{lineOf, Showing, Text, NoneAt, behind}
 use Rattle.script.specs.declared.NoText.{NoText}
 use Rattle.script.specs.declared.Shown.{Shown}
 use Rattle.script.specs.declared.Shown.the-variants.{Done, Refused}
-use Rattle.script.specs.declared.showing.Found.{Found}
-use Rattle.script.specs.declared.showing.Found.the-variants.{Line, Stop}
+use Rattle.script.specs.declared.rules.showing.Found.{Found}
+use Rattle.script.specs.declared.rules.showing.Found.the-variants.{Line, Stop}
 use Rattle.script.proofs.Onward.{led, Here, here, rest, next, rest-none, turn, lent-found}
 
 -- the answer, with so many characters before the text

@@ -17,8 +17,8 @@ use Rattle.script.specs.Pieces.{foundKnown, found}
 use Rattle.script.specs.Shown.{lineOf, isIdle, Showing, Text, NoneAt, behind, showing}
 use Rattle.script.specs.declared.NoText.{NoText}
 use Rattle.script.specs.declared.NoText.the-variants.{NoCommand, MissingOperand, NoTicks, BufferShort}
-use Rattle.script.specs.declared.showing.Found.{Found}
-use Rattle.script.specs.declared.showing.Found.the-variants.{Line, Stop}
+use Rattle.script.specs.declared.rules.showing.Found.{Found}
+use Rattle.script.specs.declared.rules.showing.Found.the-variants.{Line, Stop}
 
 -- more commands than there are bytes don't matter
 fuel-more : (fuel at size room : ℕ) (bytes : List ℕ) → length bytes ≤ fuel → showing (suc fuel) at size room bytes ≡ showing fuel at size room bytes

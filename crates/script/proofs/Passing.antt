@@ -24,9 +24,9 @@ use Rattle.script.specs.declared.Assembled.{Assembled}
 use Rattle.script.specs.declared.Assembled.the-variants as answer
 use Rattle.script.specs.declared.Why.{Why}
 use Rattle.script.specs.declared.Why.the-variants.{ScheduleLong, BufferShort}
-use Rattle.script.specs.declared.assembling.Step.the-variants as code
-use Rattle.script.specs.declared.lines.Line as line
-use Rattle.script.specs.declared.words.Part.the-variants.{Line}
+use Rattle.script.specs.declared.rules.assembling.Step.the-variants as code
+use Rattle.script.specs.declared.rules.lines.Line as line
+use Rattle.script.specs.declared.rules.words.Part.the-variants.{Line}
 use Rattle.script.proofs.Leads.{lead-short, part-text, part-behind, part-within, lines-at}
 use Rattle.script.proofs.Sizes.{gives-bytes}
 use Rattle.script.proofs.Taking.{lines-next, lines-wrong, Taken, taken}

@@ -14,10 +14,10 @@ use Rattle.script.specs.Cursor.{Next, ReadFirst, goingOn}
 use Rattle.script.specs.Decimals.{isNumber, valueOf, capped, valued, shift, numbers}
 use Rattle.script.specs.Split.{words}
 use Rattle.script.specs.declared.Why.the-variants.{UnknownWord, NumberMissing, TooManyWords, NumberRange}
-use Rattle.script.specs.declared.numbers.First.{First}
-use Rattle.script.specs.declared.numbers.First.the-variants as code
-use Rattle.script.specs.declared.numbers.Numbers.the-variants.{Three, Wrong}
-use Rattle.script.specs.declared.numbers.Value.the-variants.{Number, NotNumber}
+use Rattle.script.specs.declared.rules.numbers.First.{First}
+use Rattle.script.specs.declared.rules.numbers.First.the-variants as code
+use Rattle.script.specs.declared.rules.numbers.Numbers.the-variants.{Three, Wrong}
+use Rattle.script.specs.declared.rules.numbers.Value.the-variants.{Number, NotNumber}
 use Rattle.script.proofs.Capping.{capped-small, capped-large}
 
 -- what a word is, from its value

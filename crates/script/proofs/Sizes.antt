@@ -18,9 +18,9 @@ use Rattle.script.specs.Encoded.{encode, encodeAll}
 use Rattle.script.specs.Entries.{Entry, longestRun, runs, mostRuns, table, entries, none, entry, chosen}
 use Rattle.script.specs.Split.{lines, words, inside, lead}
 use Rattle.script.specs.declared.Why.the-variants.{UnknownWord, NumberRange}
-use Rattle.script.specs.declared.numbers.Numbers.{Numbers}
-use Rattle.script.specs.declared.numbers.Numbers.the-variants as read
-use Rattle.script.specs.declared.words.Part.the-variants.{Uncommented}
+use Rattle.script.specs.declared.rules.numbers.Numbers.{Numbers}
+use Rattle.script.specs.declared.rules.numbers.Numbers.the-variants as read
+use Rattle.script.specs.declared.rules.words.Part.the-variants.{Uncommented}
 use Rattle.script.proofs.Taking.{Taken, taken}
 use Rattle.script.proofs.Values.{within-is}
 

@@ -8,7 +8,7 @@ use borrow.Author.Tests.{not-true}
 use Rattle.lists.specs.Every.{All}
 use Rattle.text.specs.Hex.{isBlank}
 use Rattle.script.specs.Split.{onto, lines, goesOn, words, inside, lead, rest}
-use Rattle.script.specs.declared.words.Part.the-variants.{Word, Line}
+use Rattle.script.specs.declared.rules.words.Part.the-variants.{Word, Line}
 
 -- every character passes a test
 abbrev pub Each : (ℕ → Bool) → List ℕ → Type 0

@@ -15,7 +15,7 @@ use Rattle.text.specs.Numbers.{digits, decimal}
 use Rattle.text.proofs.Digits.{digits-one, digits-next, ten}
 use Rattle.script.specs.Decimals.{isNumber, valueFrom, valueOf}
 use Rattle.script.specs.Split.{inside}
-use Rattle.script.specs.declared.words.Part.the-variants.{Word, Uncommented, Line}
+use Rattle.script.specs.declared.rules.words.Part.the-variants.{Word, Uncommented, Line}
 use Rattle.script.proofs.Splitting.{Each}
 
 -- a number in a range

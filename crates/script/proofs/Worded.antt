@@ -17,7 +17,7 @@ use Rattle.election.specs.Commands.{Command, SetUp, Start, Crash, Link, Run, Lo
 use Rattle.script.specs.Entries.{entry, entries}
 use Rattle.script.specs.Pieces.{Phrased, longestLine}
 use Rattle.script.specs.Shown.{entryOf, numbersOf, spaced, written, lineOf, isIdle}
-use Rattle.script.specs.declared.written.Phrase.{Phrase}
+use Rattle.script.specs.declared.rules.written.Phrase.{Phrase}
 
 -- four bytes say which command it is
 pub phrased : (bytes : List ℕ) {b x y z : ℕ} {r : Phrase} → b ≡ getD bytes 0 0 → x ≡ getD bytes 1 0 → y ≡ getD bytes 2 0 → z ≡ getD bytes 3 0

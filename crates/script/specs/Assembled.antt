@@ -15,9 +15,9 @@ use Rattle.script.specs.declared.Assembled.{Assembled}
 use Rattle.script.specs.declared.Assembled.the-variants as code
 use Rattle.script.specs.declared.Why.{Why}
 use Rattle.script.specs.declared.Why.the-variants.{UnknownWord, ScheduleLong, BufferShort}
-use Rattle.script.specs.declared.numbers.Numbers.{Numbers}
-use Rattle.script.specs.declared.numbers.Numbers.the-variants as read
-use Rattle.script.specs.declared.words.Part.the-variants.{Uncommented}
+use Rattle.script.specs.declared.rules.numbers.Numbers.{Numbers}
+use Rattle.script.specs.declared.rules.numbers.Numbers.the-variants as read
+use Rattle.script.specs.declared.rules.words.Part.the-variants.{Uncommented}
 
 -- what a line means: its commands, or that it is wrong and why
 pub data Meant : Type 0 where

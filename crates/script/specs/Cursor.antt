@@ -7,10 +7,10 @@ use lib.ListN.{length, take, drop}
 use Rattle.script.specs.Decimals.{shift, numbers}
 use Rattle.script.specs.Entries.{entries, entry, begins, chosen}
 use Rattle.script.specs.Split.{words}
-use Rattle.script.specs.declared.numbers.First.{First}
-use Rattle.script.specs.declared.numbers.First.the-variants as code
-use Rattle.script.specs.declared.numbers.Numbers.{Numbers}
-use Rattle.script.specs.declared.numbers.Numbers.the-variants as read
+use Rattle.script.specs.declared.rules.numbers.First.{First}
+use Rattle.script.specs.declared.rules.numbers.First.the-variants as code
+use Rattle.script.specs.declared.rules.numbers.Numbers.{Numbers}
+use Rattle.script.specs.declared.rules.numbers.Numbers.the-variants as read
 
 -- the next word from a place on stands from `start` to `end`; where these are the same there is none
 pub record Next (text : List ℕ) (at start end : ℕ) : Type 0 where

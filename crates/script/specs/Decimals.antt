@@ -6,10 +6,10 @@ use lib.Dec.{leb}
 use Rattle.fit.specs.Fit.{within}
 use Rattle.script.specs.declared.Why.{Why}
 use Rattle.script.specs.declared.Why.the-variants.{UnknownWord, NumberMissing, TooManyWords, NumberRange}
-use Rattle.script.specs.declared.numbers.Numbers.{Numbers}
-use Rattle.script.specs.declared.numbers.Numbers.the-variants.{Three, Wrong}
-use Rattle.script.specs.declared.numbers.Value.{Value}
-use Rattle.script.specs.declared.numbers.Value.the-variants.{Number, NotNumber}
+use Rattle.script.specs.declared.rules.numbers.Numbers.{Numbers}
+use Rattle.script.specs.declared.rules.numbers.Numbers.the-variants.{Three, Wrong}
+use Rattle.script.specs.declared.rules.numbers.Value.{Value}
+use Rattle.script.specs.declared.rules.numbers.Value.the-variants.{Number, NotNumber}
 
 -- every character is a decimal digit
 unfoldable pub isNumber : List ℕ → Bool

@@ -12,8 +12,8 @@ use Rattle.script.specs.Claims.{commandsOf}
 use Rattle.script.specs.Encoded.{encodeAll}
 use Rattle.script.specs.Entries.{runs, mostRuns}
 use Rattle.script.specs.Tabled.{runByte}
-use Rattle.script.specs.declared.lines.Line.{Line}
-use Rattle.script.specs.declared.lines.Line.the-variants as code
+use Rattle.script.specs.declared.rules.lines.Line.{Line}
+use Rattle.script.specs.declared.rules.lines.Line.the-variants as code
 
 abbrev pub meaning : Line → Meant
 meaning code.Nothing = Commands []

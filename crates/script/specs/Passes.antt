@@ -13,9 +13,9 @@ use Rattle.script.specs.Split.{lines}
 use Rattle.script.specs.declared.Assembled.{Assembled}
 use Rattle.script.specs.declared.Assembled.the-variants as answer
 use Rattle.script.specs.declared.Why.the-variants.{ScheduleLong, BufferShort}
-use Rattle.script.specs.declared.assembling.Step.{Step}
-use Rattle.script.specs.declared.assembling.Step.the-variants as code
-use Rattle.script.specs.declared.lines.Line.{Line}
+use Rattle.script.specs.declared.rules.assembling.Step.{Step}
+use Rattle.script.specs.declared.rules.assembling.Step.the-variants as code
+use Rattle.script.specs.declared.rules.lines.Line.{Line}
 
 -- the line at a place of a text, as it is read, and the place of the next one
 pub record LineAt (text : List ℕ) (at : ℕ) (line : Line) (next : ℕ) : Type 0 where

@@ -12,9 +12,9 @@ use Rattle.script.specs.Shown.{entryOf, numbersOf, lineOf, isIdle, Showi
 use Rattle.script.specs.declared.NoText.the-variants.{NoCommand, MissingOperand, NoTicks, BufferShort}
 use Rattle.script.specs.declared.Shown.{Shown}
 use Rattle.script.specs.declared.Shown.the-variants.{Done, Refused}
-use Rattle.script.specs.declared.showing.Found.{Found}
-use Rattle.script.specs.declared.showing.Found.the-variants.{Line, Stop}
-use Rattle.script.specs.declared.written.Phrase.{Phrase}
+use Rattle.script.specs.declared.rules.showing.Found.{Found}
+use Rattle.script.specs.declared.rules.showing.Found.the-variants.{Line, Stop}
+use Rattle.script.specs.declared.rules.written.Phrase.{Phrase}
 
 -- the entry of a command, and its numbers in front
 pub record Phrased (c : Command) (r : Phrase) : Type 0 where

@@ -4,8 +4,8 @@ use mathlib.Core.Bool.{Bool, true, false, cond, not}
 use Prim.Native.Nat.{ℕ}
 use lib.Dec.{eqb}
 use Rattle.text.specs.Hex.{isBlank}
-use Rattle.script.specs.declared.words.Part.{Part}
-use Rattle.script.specs.declared.words.Part.the-variants.{Blanks, Word, Uncommented, Line}
+use Rattle.script.specs.declared.rules.words.Part.{Part}
+use Rattle.script.specs.declared.rules.words.Part.the-variants.{Blanks, Word, Uncommented, Line}
 
 -- a character before the first of some pieces
 abbrev pub onto : ℕ → List (List ℕ) → List (List ℕ)

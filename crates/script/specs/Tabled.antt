@@ -6,7 +6,7 @@ use lib.ListN.{length, take}
 use Rattle.station.specs.Limits.{lastTick}
 use Rattle.election.specs.Commands.{Command, decode, lastCommand}
 use Rattle.script.specs.Entries.{entry, runs, mostRuns}
-use Rattle.script.specs.declared.entries.Entry.{Entry}
+use Rattle.script.specs.declared.rules.entries.Entry.{Entry}
 
 -- the byte of a run
 abbrev pub runByte : ℕ

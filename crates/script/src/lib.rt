@@ -3,15 +3,7 @@ ghost use mathlib.Core.Path.{_≡_};
 ghost use Rattle.script.specs.Assembled.{assembled as Assembled·assembled};
 ghost use Rattle.script.specs.Shown.{shown as Shown·shown};
 
-pub mod assembling;
-pub mod entries;
-pub mod finding;
-pub mod lines;
-pub mod numbers;
-pub mod places;
-pub mod showing;
-pub mod words;
-pub mod written;
+pub mod rules;
 
 // Why a line is wrong: an unknown word; a number is missing; more words than the command has; a number that doesn't fit its place; with it the schedule
 // has more than 65,536 bytes, or more than there is room for.
@@ -49,9 +41,9 @@ pub enum Shown {
 pub fn assemble(text: &[u8], buffer: &mut [u8]) -> Assembled
     ensures { λ r. ⌜ record { answer = r; buffer = now (buffer .exit) } ≡ Assembled·assembled (now (text .entry)) (now (buffer .entry)) ⌝ }
 {
-    let r = assembling::measure(text, buffer.len());
+    let r = rules::assembling::measure(text, buffer.len());
     match r {
-        Assembled::Done(_) => Assembled::Done(assembling::fill(text, buffer)),
+        Assembled::Done(_) => Assembled::Done(rules::assembling::fill(text, buffer)),
         Assembled::Wrong { line, why } => Assembled::Wrong { line, why },
     }
 }
@@ -66,9 +58,9 @@ pub fn show(bytes: &[u8], buffer: &mut [u8]) -> Shown
             why: NoText::ScheduleLong,
         };
     }
-    let r = showing::measure(bytes, buffer.len());
+    let r = rules::showing::measure(bytes, buffer.len());
     match r {
-        Shown::Done(_) => Shown::Done(showing::fill(bytes, buffer)),
+        Shown::Done(_) => Shown::Done(rules::showing::fill(bytes, buffer)),
         Shown::Refused { at, why } => Shown::Refused { at, why },
     }
 }
