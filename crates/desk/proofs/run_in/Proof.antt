@@ -3,7 +3,6 @@ use mathlib.Core.Path.{refl, sym, _∙_}
 use native.Mathlib.Omega.{arith}
 use lib.Seq.{length-take-le}
 use Rattle.desk.proofs.Rooms.{text-rooms, bytes-rooms}
-use borrow.Author.Needs.{needs}
 use Rattle.desk.proofs.run_in.Statement.{statement}
 use Rattle.desk.proofs.run_in.Tie as tie
 
@@ -23,16 +22,16 @@ pub run-in-spec : {M : Type 1} → statement M
 run-in-spec =
     tie.close
     (tie.spec
-    (λ c κs. search needs)
-    (λ c κs. search needs)
-    (λ c κs. search needs)
-    (λ c. search needs)
-    (λ c. search needs)
+    (λ c κs. tt)
+    (λ c κs. tt)
+    (λ c κs. tt)
+    (λ c. c .before .before .before .bytes-space .ensures)
+    (λ c. omega (arith, c .before .before .before .before .text-space .ensures))
     slice-aggregate-run-2
     run-requires
-    (λ c. search needs)
-    (λ c. search needs)
-    (λ c. search needs)
+    (λ c. tt)
+    (λ c. c .before .before .before .before .text-space .ensures)
+    (λ c. omega (arith, c .before .before .before .bytes-space .ensures))
     slice-aggregate-run-4
     run-requires-2
-    (λ c. search needs))
+    (λ c. tt))
