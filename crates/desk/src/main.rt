@@ -1,5 +1,6 @@
 // The rehearsal desk for schedules as text: rehearses a text from standard input, writes its bytes, writes the text of bytes, or tells the figure after it.
 ghost use mathlib.Core.Path.{_≡_};
+ghost use Prim.Native.Nat.{_≤_};
 ghost use lib.ListN.{length};
 ghost use Rattle.desk.specs.Spoken.{isText, SpaceFor, SpareFor, Spoken, Ended};
 use crate::asked::Mode;
@@ -41,17 +42,18 @@ fn answer(mode: Mode, given: &[u8], spare: &mut [u8], done: &mut usize, put: &mu
     }
 }
 
-// The program but for its arguments, its buffers and its messages: reads, and says what the mode makes of it.
+// The program but for its arguments, its buffers and its messages: reads into one, and says what the mode makes of it with so much room in the other.
 fn run(
     mode: Mode,
     space: &mut [u8],
     spare: &mut [u8],
+    room: usize,
     size: &mut usize,
     got: &mut isize,
     done: &mut usize,
     put: &mut isize,
 ) -> Ran
-    requires { ⌜ SpaceFor mode (length (now space)) × SpareFor mode (length (now spare)) ⌝ }
+    requires { ⌜ SpaceFor mode (length (now space)) × SpareFor mode room × (room ≤ length (now spare)) ⌝ }
     requires { ⌜ now size ≡ 0 ⌝ }
     requires { ⌜ now done ≡ 0 ⌝ }
     ensures { λ r. ⌜ Ended r mode (now (got .exit)) (now (size .exit)) (now (space .exit)) (now (put .exit)) (now (done .exit)) ⌝ }
@@ -60,7 +62,7 @@ fn run(
         return Ran::NotRead;
     }
     let n = *size;
-    if !answer(mode, &space[..n], spare, done, put) {
+    if !answer(mode, &space[..n], &mut spare[..room], done, put) {
         return Ran::NotWritten;
     }
     Ran::Said
@@ -105,7 +107,8 @@ fn run_in(mode: Mode) -> Ran {
         return run(
             mode,
             &mut small,
-            &mut big[..524288],
+            &mut big,
+            524288,
             &mut size,
             &mut got,
             &mut done,
@@ -115,7 +118,8 @@ fn run_in(mode: Mode) -> Ran {
     run(
         mode,
         &mut big,
-        &mut small[..65536],
+        &mut small,
+        65536,
         &mut size,
         &mut got,
         &mut done,
