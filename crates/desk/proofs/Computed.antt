@@ -27,7 +27,7 @@ no-texts = (refl, refl)
 
 pub quoted-so : Quoted
 unfolding digits text waits heads boundLine numbers conditions promise quoted figureOf
-quoted-so s ready clock = rw (ready, clock)
+quoted-so = refl
 
 pub unquoted-so : Unquoted
 unfolding text noTable clockTable noneUp figureOf

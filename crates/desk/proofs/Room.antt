@@ -11,7 +11,7 @@ use Rattle.text.proofs.Room.{either}
 use Rattle.election.specs.Commands.{decode}
 use Rattle.election.specs.declared.System.{System}
 use Rattle.words.proofs.Room.{refused-room}
-use Rattle.figures.specs.Pieces.{boundOf}
+use Rattle.settling.specs.Settling.{bound}
 use Rattle.figures.specs.declared.Figures.{Figures}
 use Rattle.script.specs.Places.{lineHolding}
 use Rattle.script.specs.declared.NoText.{NoText}
@@ -96,13 +96,13 @@ pub promise-room : (leader : ℕ) → length (promise leader) ≤ 156
 unfolding text promise
 promise-room leader = simp length-append (omega (arith, length-decimal leader))
 
-pub quoted-room : (d : ℕ) (f : Figures) → length (quoted d f) ≤ 662
+pub quoted-room : (d : ℕ) (f : Figures) (most : ℕ) → length (quoted d f most) ≤ 662
 unfolding quoted
-quoted-room d f = simp length-append (omega (arith, numbers-room f (boundOf d f), conditions-room d (boundOf d f), promise-room (f .leader)))
+quoted-room d f most = simp length-append (omega (arith, numbers-room f most, conditions-room d most, promise-room (f .leader)))
 
 pub figure-room : (d : ℕ) (s : System) (f : Figures) → length (figure d s f) ≤ 662
 unfolding text noTable clockTable noneUp figureOf
 figure-room d s f =
     either (not (s .ready)) _ _ 662 (omega arith)
     (either (s .clock) _ _ 662 (omega arith)
-    (either (eqb (f .heads) 0) _ _ 662 (omega arith) (quoted-room d f)))
+    (either (eqb (f .heads) 0) _ _ 662 (omega arith) (quoted-room d f (bound d s))))

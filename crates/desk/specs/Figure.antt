@@ -6,9 +6,10 @@ use lib.Dec.{eqb}
 use Rattle.text.specs.Numbers.{named, pair}
 use Rattle.text.specs.Quoted.{text}
 use Rattle.election.specs.declared.System.{System}
-use Rattle.figures.specs.Pieces.{boundOf}
+use Rattle.settling.specs.Settling.{bound}
 use Rattle.figures.specs.declared.Figures.{Figures}
 
+-- W, M and B, each with what it is; what B is stands before k, and what L is before the bound
 unfoldable pub waits : Figures → List ℕ
 waits f = pair (text "W ") (f .wait) (text ", the longest start-up wait left\nM ") (f .timeout) ++ named (text ", the longest timeout\nB ") (f .period)
 
@@ -32,8 +33,8 @@ conditions d most =
 unfoldable pub promise : ℕ → List ℕ
 promise leader = pair (text " ticks from here on end with a head that is up not trusting station ") leader (text ", and in all others no head but station ") leader ++ text " sends.\n"
 
-unfoldable pub quoted : ℕ → Figures → List ℕ
-quoted d f = numbers f (boundOf d f) ++ conditions d (boundOf d f) ++ promise (f .leader)
+unfoldable pub quoted : ℕ → Figures → ℕ → List ℕ
+quoted d f most = numbers f most ++ conditions d most ++ promise (f .leader)
 
 -- where there is none
 unfoldable pub noTable : List ℕ
@@ -45,9 +46,9 @@ clockTable = text "the heads have a running clock, and the bound is for heads wi
 unfoldable pub noneUp : List ℕ
 noneUp = text "no head is up\n"
 
--- the figure of a system, from its figures
-unfoldable pub figureOf : ℕ → Bool → Bool → Figures → List ℕ
-figureOf d ready clock f = cond (not ready) noTable (cond clock clockTable (cond (eqb (f .heads) 0) noneUp (quoted d f)))
+-- the figure of a system, from its figures and its bound
+unfoldable pub figureOf : ℕ → Bool → Bool → Figures → ℕ → List ℕ
+figureOf d ready clock f most = cond (not ready) noTable (cond clock clockTable (cond (eqb (f .heads) 0) noneUp (quoted d f most)))
 
 abbrev pub figure : ℕ → System → Figures → List ℕ
-figure d s f = figureOf d (s .ready) (s .clock) f
+figure d s f = figureOf d (s .ready) (s .clock) f (bound d s)

@@ -10,7 +10,7 @@ use Rattle.election.specs.declared.System.{System}
 use Rattle.figures.specs.declared.Figures.{Figures}
 use Rattle.script.specs.declared.NoText.the-variants as none
 use Rattle.script.specs.declared.Why.the-variants.{UnknownWord, NumberMissing, TooManyWords, NumberRange, ScheduleLong, BufferShort}
-use Rattle.desk.specs.Figure.{figure}
+use Rattle.desk.specs.Figure.{figure, figureOf}
 use Rattle.desk.specs.Said.{Read, reading}
 use Rattle.desk.specs.Wording.{wrongLine, noText, ending}
 
@@ -34,8 +34,7 @@ figures = record { wait = 4; timeout = 17; period = 16; heads = 2; leader = 2 }
 
 abbrev pub Quoted : Type 0
 Quoted =
-    (s : System) → s .ready ≡ true → s .clock ≡ false
-    → figure 3 s figures
+    figureOf 3 true false figures 47
     ≡ text "W 4, the longest start-up wait left\n"
     ++ text "M 17, the longest timeout\n"
     ++ text "B 16, the period\n"

@@ -7,10 +7,8 @@ use Prim.Native.Nat.{ℕ}
 use lib.Dec.{ltb}
 use lib.IntN.{ℤ, pos}
 use lib.ListN.{length}
-use Rattle.election.specs.Listing.{reports}
 use Rattle.election.specs.Schedule.{End, mostBytes, schedule}
-use Rattle.election.specs.System.{fresh}
-use Rattle.election.specs.declared.System.{System}
+use Rattle.printing.specs.Listings.{listings}
 use Rattle.figures.specs.Figures.{Figured}
 use Rattle.figures.specs.declared.Figures.{Figures}
 use Rattle.script.specs.Assembled.{Script, Schedule, WrongAt, script}
@@ -51,7 +49,7 @@ onError said = record { out = pos 2; text = said }
 unfoldable pub rehearsed : List ℕ → List ℕ → List ℕ
 rehearsed given bytes =
     let e : End = schedule bytes in
-    reports (length bytes) fresh bytes ++ ending (e .refusal) given (e .offset) bytes
+    listings bytes ++ ending (e .refusal) given (e .offset) bytes
 
 abbrev pub rehearsing : List ℕ → Reading → Saying
 rehearsing given (Read bytes) = onOutput (rehearsed given bytes)
@@ -73,7 +71,7 @@ Figuring d given (Read bytes) s =
     ⊎ ((schedule bytes .refusal ≡ 0) × ((f : Figures) × Figured (schedule bytes .system) f × (s ≡ onOutput (figure d (schedule bytes .system) f))))
 Figuring d given (Unread why) s = s ≡ onError why
 
--- what is said in each mode; without one nothing is
+-- what is said in each mode; without one the program shows its usage and does not come here
 abbrev pub Says : Mode → List ℕ → Saying → Type 0
 Says mode.Rehearse given s = s ≡ rehearsing given (reading given)
 Says mode.Bytes given s = s ≡ assembling (reading given)

@@ -4,12 +4,11 @@ ghost use lib.ListN.{length};
 ghost use Rattle.text.specs.Wrote.{Wrote};
 ghost use Rattle.desk.specs.Figure.{waits, heads as Figure·heads, boundLine, numbers, conditions, promise, quoted, figureOf};
 use figures::Figures;
-use figures::rules::bound_of;
 use text::rules::put;
 use text::rules::put_named;
 use text::rules::put_pair;
 
-// Writes the waits.
+// Writes W, M and B.
 pub fn put_waits(f: Figures, buffer: &mut [u8]) -> usize
     requires { ⌜ length (waits f) ≤ length (now buffer) ⌝ }
     ensures { λ r. ⌜ Wrote (waits f) (now (buffer .entry)) r (now (buffer .exit)) ⌝ }
@@ -29,7 +28,7 @@ pub fn put_waits(f: Figures, buffer: &mut [u8]) -> usize
         )
 }
 
-// Writes which heads are up.
+// Writes how many heads are up, and L.
 pub fn put_heads(f: Figures, buffer: &mut [u8]) -> usize
     requires { ⌜ length (Figure·heads f) ≤ length (now buffer) ⌝ }
     ensures { λ r. ⌜ Wrote (Figure·heads f) (now (buffer .entry)) r (now (buffer .exit)) ⌝ }
@@ -95,21 +94,27 @@ pub fn put_promise(leader: u8, buffer: &mut [u8]) -> usize
     at + put(b" sends.\n", &mut buffer[at..])
 }
 
-// Writes the figures and what they promise.
-pub fn put_quoted(d: u16, f: Figures, buffer: &mut [u8]) -> usize
-    requires { ⌜ length (quoted d f) ≤ length (now buffer) ⌝ }
-    ensures { λ r. ⌜ Wrote (quoted d f) (now (buffer .entry)) r (now (buffer .exit)) ⌝ }
+// Writes the figures, the bound and what they promise.
+pub fn put_quoted(d: u16, f: Figures, most: u64, buffer: &mut [u8]) -> usize
+    requires { ⌜ length (quoted d f most) ≤ length (now buffer) ⌝ }
+    ensures { λ r. ⌜ Wrote (quoted d f most) (now (buffer .entry)) r (now (buffer .exit)) ⌝ }
 {
-    let most = bound_of(d, f);
     let a = put_numbers(f, most, buffer);
     let b = a + put_conditions(d, most, &mut buffer[a..]);
     b + put_promise(f.leader, &mut buffer[b..])
 }
 
 // Writes the figure of a system, by whether it is set up and whether its heads have a running clock, or why there is none.
-pub fn put_figure(d: u16, ready: bool, clock: bool, f: Figures, buffer: &mut [u8]) -> usize
-    requires { ⌜ length (figureOf d ready clock f) ≤ length (now buffer) ⌝ }
-    ensures { λ r. ⌜ Wrote (figureOf d ready clock f) (now (buffer .entry)) r (now (buffer .exit)) ⌝ }
+pub fn put_figure(
+    d: u16,
+    ready: bool,
+    clock: bool,
+    f: Figures,
+    most: u64,
+    buffer: &mut [u8],
+) -> usize
+    requires { ⌜ length (figureOf d ready clock f most) ≤ length (now buffer) ⌝ }
+    ensures { λ r. ⌜ Wrote (figureOf d ready clock f most) (now (buffer .entry)) r (now (buffer .exit)) ⌝ }
 {
     if !ready {
         return put(b"nothing is set up\n", buffer);
@@ -123,5 +128,5 @@ pub fn put_figure(d: u16, ready: bool, clock: bool, f: Figures, buffer: &mut [u8
     if f.heads == 0 {
         return put(b"no head is up\n", buffer);
     }
-    put_quoted(d, f, buffer)
+    put_quoted(d, f, most, buffer)
 }

@@ -1,6 +1,7 @@
 // A rehearsal: the listings of a text's schedule, and how it ended.
 ghost use mathlib.Core.Path.{_≡_};
 ghost use Prim.Native.Nat.{_+_, _<_, _≤_, _^_};
+ghost use lib.IntN.{pos};
 ghost use lib.ListN.{length};
 ghost use Rattle.calls.specs.Calls.{Taken};
 ghost use Rattle.calls.specs.Next.{ComesNext};
@@ -18,13 +19,21 @@ use libc::STDERR_FILENO;
 use libc::STDOUT_FILENO;
 use printing::rules::print_listings;
 
-// Says what comes next of a rehearsal on standard output; answers whether all of it was taken.
-fn say_next(given: &[u8], bytes: &[u8], text: &[u8], done: &mut usize, put: &mut isize) -> bool
+// Says what comes next of a rehearsal, on standard output; answers whether all of it was taken.
+fn say_next(
+    given: &[u8],
+    bytes: &[u8],
+    fd: i32,
+    text: &[u8],
+    done: &mut usize,
+    put: &mut isize,
+) -> bool
+    requires { ⌜ fd ≡ pos 1 ⌝ }
     requires { ⌜ ComesNext (rehearsed (now given) (now bytes)) (now done) (now text) ⌝ }
     requires { ⌜ now done + length (now text) < 2 ^ 64 ⌝ }
     ensures { λ r. ⌜ Taken r (now (put .exit)) (now (done .exit)) (now (done .entry) + length (now (text .entry))) ⌝ }
 {
-    write_text(STDOUT_FILENO, text, done, put)
+    write_text(fd, text, done, put)
 }
 
 // Rehearses the schedule of a text.
@@ -40,7 +49,7 @@ fn rehearse(given: &[u8], bytes: &[u8], done: &mut usize, put: &mut isize) -> bo
     let mut line = io::buffer();
     let stop = r.stop;
     let n = put_ending(stop, given, r.at, bytes, &mut line);
-    say_next(given, bytes, &line[..n], done, put)
+    say_next(given, bytes, STDOUT_FILENO, &line[..n], done, put)
 }
 
 // Says the rehearsal of a text.

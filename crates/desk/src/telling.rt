@@ -12,6 +12,7 @@ use crate::said::prepare;
 use crate::said::say;
 use crate::wording::put_complaint;
 use election::Ended;
+use figures::rules::bound_ticks;
 use figures::rules::figures;
 use libc::STDERR_FILENO;
 use libc::STDOUT_FILENO;
@@ -32,7 +33,8 @@ fn tell(d: u16, given: &[u8], bytes: &[u8], done: &mut usize, put: &mut isize) -
             say(Mode::Figure(d), given, STDERR_FILENO, &line[..n], done, put)
         }
         Ended::Whole(_) => {
-            let n = put_figure(d, s.ready, s.clock, figures(s), &mut line);
+            let f = figures(s);
+            let n = put_figure(d, s.ready, s.clock, f, bound_ticks(d, s), &mut line);
             say(Mode::Figure(d), given, STDOUT_FILENO, &line[..n], done, put)
         }
     }

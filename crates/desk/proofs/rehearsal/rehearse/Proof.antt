@@ -1,5 +1,5 @@
 -- The function rehearsal::rehearse meets its contract.
-use mathlib.Core.Path.{sym}
+use mathlib.Core.Path.{refl, sym}
 use native.Mathlib.Omega.{arith}
 use lib.Seq.{length-take-le}
 use Rattle.text.proofs.Parts.{wrote-inside}
@@ -23,10 +23,10 @@ slice-aggregate-say-next : tie.Need-slice-aggregate-say-next
 slice-aggregate-say-next c = sym (length-take-le _ _ (wrote-inside (c .before .before .put-ending .ensures)))
 
 say-next-requires : tie.Need-say-next-requires
-say-next-requires c κs = (ending-next _ _ (c .before .before .before .before .before .before .before .before .before .print-listings .ensures) (c .before .before .before .before .before .before .before .if1 .left) (c .before .before .before .before .put-ending .ensures), ending-counted _ _ (c .before .before .before .before .before .before .before .before .before .print-listings .ensures) (c .before .before .before .before .before .before .before .if1 .left) (c .before .before .before .before .put-ending .ensures) (c .before .before .before .before .before .before .buffer .ensures) (c .before .before .before .before .put-ending .kept .1 .1 .1 .1 .0))
+say-next-requires c κs = (refl, (ending-next _ _ (c .before .before .before .before .before .before .before .before .before .print-listings .ensures) (c .before .before .before .before .before .before .before .if1 .left) (c .before .before .before .before .put-ending .ensures), ending-counted _ _ (c .before .before .before .before .before .before .before .before .before .print-listings .ensures) (c .before .before .before .before .before .before .before .if1 .left) (c .before .before .before .before .put-ending .ensures) (c .before .before .before .before .before .before .buffer .ensures) (c .before .before .before .before .put-ending .kept .1 .1 .1 .1 .0)))
 
 returns-2 : tie.Need-returns-2
-returns-2 c = ending-taken _ _ (c .before .before .before .before .before .before .before .before .before .before .print-listings .ensures) (c .before .before .before .before .before .before .before .before .if1 .left) (c .before .before .before .before .before .put-ending .ensures) (c .say-next .result) (c .say-next .last .1 .1 .1 .1 .0) (c .say-next .last .1 .1 .1 .0) (c .say-next .ensures)
+returns-2 c = ending-taken _ _ (c .before .before .before .before .before .before .before .before .before .before .print-listings .ensures) (c .before .before .before .before .before .before .before .before .if1 .left) (c .before .before .before .before .before .put-ending .ensures) (c .say-next .result) (c .say-next .last .1 .1 .1 .1 .1 .0) (c .say-next .last .1 .1 .1 .1 .0) (c .say-next .ensures)
 
 pub rehearse-spec : {M : Type 1} → statement M
 rehearse-spec =

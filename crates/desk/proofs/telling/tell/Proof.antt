@@ -38,7 +38,7 @@ say-requires : tie.Need-say-requires
 say-requires c κs = (says-refused _ _ _ (c .before .before .before .before .before .before .before .before .before .before .schedule .ensures) _ _ (c .before .before .before .before .before .before .before .ended .given .1) _ (c .before .before .before .before .before .before .before .before .before .before .before .before .before .before .pre .0) (c .before .before .before .before .put-complaint .ensures), c .before .before .before .before .before .before .before .before .before .before .before .before .before .before .pre .1)
 
 put-figure-requires : tie.Need-put-figure-requires
-put-figure-requires c κs = omega (arith, figure-room (c .before .before .before .before .before .before .before .before .before .args .d) (c .before .before .before .before .before .schedule .result .system) (c .before .figures .result), c .before .before .before .before .before .before .buffer .ensures)
+put-figure-requires c κs = rw (c .before .bound-ticks .ensures) (omega (arith, figure-room (c .before .before .before .before .before .before .before .before .before .before .args .d) (c .before .before .before .before .before .before .schedule .result .system) (c .before .before .figures .result), c .before .before .before .before .before .before .before .buffer .ensures))
 
 array-share-prefix-line-2 : tie.Need-array-share-prefix-line-2
 array-share-prefix-line-2 c = wrote-inside (c .before .put-figure .ensures)
@@ -47,7 +47,7 @@ slice-aggregate-say-2 : tie.Need-slice-aggregate-say-2
 slice-aggregate-say-2 c = sym (length-take-le _ _ (wrote-inside (c .before .before .put-figure .ensures)))
 
 say-requires-2 : tie.Need-say-requires-2
-say-requires-2 c κs = (says-figure _ _ _ (c .before .before .before .before .before .before .before .before .before .before .schedule .ensures) _ (c .before .before .before .before .before .before .before .enum-told .given .1) _ (c .before .before .before .before .before .before .before .before .before .before .before .before .before .before .pre .0) _ (c .before .before .before .before .before .before .figures .ensures) (c .before .before .before .before .put-figure .ensures), c .before .before .before .before .before .before .before .before .before .before .before .before .before .before .pre .1)
+say-requires-2 c κs = (says-figure _ _ _ (c .before .before .before .before .before .before .before .before .before .before .before .schedule .ensures) _ (c .before .before .before .before .before .before .before .before .enum-told .given .1) _ (c .before .before .before .before .before .before .before .before .before .before .before .before .before .before .before .pre .0) _ (c .before .before .before .before .before .before .before .figures .ensures) (rw (c .before .before .before .before .before .before .bound-ticks .ensures) at (c .before .before .before .before .put-figure .ensures)), c .before .before .before .before .before .before .before .before .before .before .before .before .before .before .before .pre .1)
 
 pub tell-spec : {M : Type 1} → statement M
 tell-spec =
@@ -62,6 +62,7 @@ tell-spec =
     slice-aggregate-say
     say-requires
     (λ c. search needs)
+    (λ c κs. search needs)
     (λ c κs. search needs)
     (λ c. search needs)
     put-figure-requires
