@@ -1,4 +1,5 @@
 -- Laws of what is said.
+pub mod Again
 pub mod Asking
 pub mod Computed
 pub mod Enough

@@ -6,6 +6,7 @@ pub mod Cases
 pub mod Chosen
 pub mod Coded
 pub mod Filled
+pub mod Fitting
 pub mod Holding
 pub mod Leads
 pub mod Leaving

@@ -19,6 +19,10 @@ Restores =
     (room : ℕ) (bytes text : List ℕ) → Bytes bytes → shownText room bytes ≡ Text text
     → (space : ℕ) → length bytes ≤ space → script space text ≡ Schedule bytes
 
+-- and what show wrote is no longer than the buffer, and of no more bytes than a schedule has
+abbrev pub TextFits : Type 0
+TextFits = (room : ℕ) (bytes text : List ℕ) → shownText room bytes ≡ Text text → (length text ≤ room) × (length bytes ≤ mostBytes)
+
 -- the commands of lines, in order
 abbrev pub commandsOf : Meant → List Command
 commandsOf (Commands cs) = cs
