@@ -6,12 +6,12 @@ use native.Mathlib.Omega.{arith}
 use lib.ListN.{length}
 use Rattle.text.specs.Wrote.{Wrote}
 use Rattle.script.specs.Assembled.{Script, Schedule, WrongAt, script, Left, leaving, assembled}
-use Rattle.script.specs.Passes.{measured, bytesOf, bytesIn, Accepted}
+use Rattle.script.specs.Passes.{measured, scriptBytes, bytesIn, Accepted}
 use Rattle.script.specs.declared.Assembled.the-variants.{Done, Wrong}
 use Rattle.script.specs.declared.Why.{Why}
 
 -- an answer of so many bytes is that of a text with no wrong line
-accepted-script : (s : Script) (n : ℕ) → measured s ≡ Done n → s ≡ Schedule (bytesOf s)
+accepted-script : (s : Script) (n : ℕ) → measured s ≡ Done n → s ≡ Schedule (scriptBytes s)
 accepted-script (Schedule bytes) n e = refl
 accepted-script (WrongAt k why) n e = let z : _≡_ {A = ℕ} 0 1 = cc in absurd (omega arith)
 
@@ -19,7 +19,7 @@ pub is-accepted : (room : ℕ) (text : List ℕ) (n : ℕ) → measured (script 
 is-accepted room text n e = accepted-script (script room text) n e
 
 -- bytes that are written, and a refusal
-leaves-bytes : (s : Script) (old new : List ℕ) (n : ℕ) → s ≡ Schedule (bytesOf s) → Wrote (bytesOf s) old n new → _≡_ {A = Left} (record { answer = Done n; buffer = new }) (leaving s old)
+leaves-bytes : (s : Script) (old new : List ℕ) (n : ℕ) → s ≡ Schedule (scriptBytes s) → Wrote (scriptBytes s) old n new → _≡_ {A = Left} (record { answer = Done n; buffer = new }) (leaving s old)
 leaves-bytes (Schedule bytes) old new n e w = rw (w .count, w .bytes)
 leaves-bytes (WrongAt k why) old new n e w = let z : _≡_ {A = ℕ} 0 1 = cc in absurd (omega arith)
 

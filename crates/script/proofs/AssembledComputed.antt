@@ -16,7 +16,7 @@ rows = (
   refl,
   refl,
   (refl, refl),
-  refl,
+  (refl, refl),
   (refl, refl, refl, refl, refl, refl, refl, refl, refl, refl, refl, refl, refl, refl, refl, refl, refl),
   (refl, refl),
   (refl, refl, refl, refl, refl, refl),

@@ -1,15 +1,13 @@
 -- Laws of the line that holds a byte of the schedule, looked for line by line.
 use mathlib.Core.Path.{_≡_, sym, ap, _∙_}
-use mathlib.Core.List.{List, _∷_}
-use mathlib.Core.Bool.{cond}
+use mathlib.Core.List.{List}
 use Prim.Native.Nat.{ℕ, _+_, _<_, _≤_}
 use native.Mathlib.Omega.{arith}
 use borrow.Author.Tests.{lt-ltb, le-ltb}
 use lib.ListN.{length, drop, drop-of-length-le}
-use Rattle.script.specs.Assembled.{ofLine}
-use Rattle.script.specs.Claims.{commandsOf}
+use Rattle.script.specs.Assembled.{commandsOf, ofLine}
 use Rattle.script.specs.Encoded.{encodeAll}
-use Rattle.script.specs.Meanings.{bytesOf}
+use Rattle.script.specs.Meanings.{lineBytes}
 use Rattle.script.specs.Passes.{LineAt}
 use Rattle.script.specs.Places.{holdingFrom, lineHolding}
 use Rattle.script.specs.Split.{lines}
@@ -22,7 +20,7 @@ pub record NotTo (text : List ℕ) (offset at passed size : ℕ) : Type 0 where
   pub within : at ≤ length text
   pub few : passed ≤ at
 
-module _ {text : List ℕ} {offset at passed size : ℕ} (n : NotTo text offset at passed size) {l : Line} {next : ℕ} (here : LineAt text at l next) {more : ℕ} (count : more ≡ length (bytesOf l)) where
+module _ {text : List ℕ} {offset at passed size : ℕ} (n : NotTo text offset at passed size) {l : Line} {next : ℕ} (here : LineAt text at l next) {more : ℕ} (count : more ≡ length (lineBytes l)) where
   own-size : length (encodeAll (commandsOf (ofLine (here .own)))) ≡ more
   own-size = ap (λ m. length (encodeAll (commandsOf m))) (sym (here .reads .is)) ∙ sym count
 

@@ -1,7 +1,7 @@
 -- Laws of the bytes of a line, as the code writes them.
 use mathlib.Core.Path.{_≡_, refl, sym, ap, subst, _∙_}
 use mathlib.Core.List.{List, [], _∷_, _++_, append-assoc, append-nil}
-use Prim.Native.Nat.{ℕ, zero, suc, _+_, _*_, _-_, _/_, _%_, _<_, _≤_}
+use Prim.Native.Nat.{ℕ, zero, suc, _+_, _*_, _-_, _<_, _≤_}
 use native.Mathlib.Omega.{arith}
 use native.Mathlib.Decide.{decLt}
 use borrow.Author.Tests.{le-leb, lt-leb}
@@ -14,7 +14,7 @@ use Rattle.text.specs.Wrote.{Wrote}
 use Rattle.text.proofs.Parts.{wrote-none, wrote-part}
 use Rattle.script.specs.Encoded.{encode, encodeAll}
 use Rattle.script.specs.Entries.{longestRun, runs, mostRuns}
-use Rattle.script.specs.Meanings.{Proper, bytesOf, longestLine}
+use Rattle.script.specs.Meanings.{Proper, lineBytes, mostLineBytes}
 use Rattle.script.specs.declared.rules.lines.Line.{Line}
 use Rattle.script.specs.declared.rules.lines.Line.the-variants as code
 use Rattle.script.proofs.Cases.{ten}
@@ -95,7 +95,7 @@ runs-few (suc fuel) t = which (decLt longestRun t) (runs-few fuel (t - longestRu
     which (yes h) r = rw (lt-leb t longestRun h) (omega (arith, length-append (encode (Run longestRun)) (encodeAll (runs fuel (t - longestRun))), length-encode (Run longestRun)))
     which (no h) r = rw (le-leb t longestRun (omega arith)) (omega (arith, length-append (encode (Run t)) [], length-encode (Run t)))
 
-pub line-room : (line : Line) → Proper line → length (bytesOf line) ≤ longestLine
+pub line-room : (line : Line) → Proper line → length (lineBytes line) ≤ mostLineBytes
 unfolding encodeAll
 line-room code.Nothing p = omega arith
 line-room (code.Command b x y z) p = omega (arith, length-append (encode (decode (b ∷ x ∷ y ∷ z ∷ []))) [], command-short b x y z (p .0) (p .1))

@@ -3,17 +3,17 @@ use mathlib.Core.Path.{_≡_, refl, sym, ap, subst, _∙_}
 use mathlib.Core.Logic.{_≢_}
 use mathlib.Core.List.{List, [], _∷_}
 use mathlib.Core.Bool.{Bool, true, false, cond}
-use Prim.Native.Nat.{ℕ, zero, suc, _<_, _≤_}
+use Prim.Native.Nat.{ℕ, zero, suc, _<_}
 use native.Mathlib.Omega.{arith}
 use borrow.Author.Tests.{eq-eqb, ne-eqb, eqb-true, eqb-false}
 use lib.Dec.{eqb}
 use lib.ListN.{length, drop}
 use Rattle.fit.specs.Fit.{within}
-use Rattle.script.specs.Assembled.{Meant, Commands, Wrong, made, ofWords}
+use Rattle.script.specs.Assembled.{Commands, made, ofWords}
 use Rattle.script.specs.Cursor.{Choice}
 use Rattle.script.specs.Decimals.{isNumber, valueOf, shift, numbers}
 use Rattle.script.specs.Entries.{entries, entry, chosen}
-use Rattle.script.specs.Meanings.{meaning, madeBy, Suited, Reads}
+use Rattle.script.specs.Meanings.{madeBy, Suited, Reads}
 use Rattle.script.specs.Split.{words}
 use Rattle.script.specs.Tabled.{runByte, Tabled}
 use Rattle.script.specs.declared.Why.{Why}

@@ -1,25 +1,22 @@
 -- Laws of the passes over a text, line by line.
-use mathlib.Core.Path.{_≡_, refl, sym, ap, subst, _∙_}
+use mathlib.Core.Path.{_≡_, refl, sym, ap, _∙_}
 use mathlib.Core.List.{List, [], _∷_, _++_, append-assoc, append-nil}
-use mathlib.Core.Bool.{Bool, true, false, cond, not}
-use Prim.Native.Nat.{ℕ, suc, _+_, _-_, _<_, _≤_}
+use mathlib.Core.Bool.{Bool, true, false, cond}
+use Prim.Native.Nat.{ℕ, _+_, _-_, _<_, _≤_}
 use native.Mathlib.Omega.{arith}
 use borrow.Author.Tests.{lt-ltb, le-ltb, ltb-false}
 use borrow.Rule.Slice.PartMut.{putMid}
 use lib.Dec.{ltb}
 use lib.ListN.{length, take, drop, length-append, drop-of-length-le, length-drop}
 use lib.Seq.{drop-drop}
-use Rattle.election.specs.Commands.{Command}
 use Rattle.election.specs.Schedule.{mostBytes}
 use Rattle.text.specs.Wrote.{Wrote}
 use Rattle.text.proofs.Parts.{wrote-none, wrote-part}
-use Rattle.script.specs.Assembled.{Meant, Commands, Wrong, ofLine, Script, Schedule, WrongAt, behind, fitting, ofLines, script}
-use Rattle.script.specs.Claims.{commandsOf}
+use Rattle.script.specs.Assembled.{Meant, Commands, Wrong, commandsOf, ofLine, Script, Schedule, WrongAt, behind, ofLines, script}
 use Rattle.script.specs.Encoded.{encodeAll}
-use Rattle.script.specs.Meanings.{meaning, Reads}
-use Rattle.script.specs.Meanings.{bytesOf as lineBytes}
+use Rattle.script.specs.Meanings.{meaning, lineBytes, Reads}
 use Rattle.script.specs.Passes.{LineAt, fitted, stepped, measured, bytesIn, Accepted}
-use Rattle.script.specs.Split.{lines, inside, lead, rest}
+use Rattle.script.specs.Split.{lines, inside, lead}
 use Rattle.script.specs.declared.Assembled.{Assembled}
 use Rattle.script.specs.declared.Assembled.the-variants as answer
 use Rattle.script.specs.declared.Why.{Why}
@@ -27,7 +24,7 @@ use Rattle.script.specs.declared.Why.the-variants.{ScheduleLong, BufferS
 use Rattle.script.specs.declared.rules.assembling.Step.the-variants as code
 use Rattle.script.specs.declared.rules.lines.Line as line
 use Rattle.script.specs.declared.rules.words.Part.the-variants.{Line}
-use Rattle.script.proofs.Leads.{lead-short, part-text, part-behind, part-within, lines-at}
+use Rattle.script.proofs.Leads.{part-text, part-behind, part-within, lines-at}
 use Rattle.script.proofs.Sizes.{gives-bytes}
 use Rattle.script.proofs.Taking.{lines-next, lines-wrong, Taken, taken}
 

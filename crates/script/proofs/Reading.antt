@@ -1,17 +1,17 @@
 -- Laws of the numbers behind a command's words, read word by word.
 use mathlib.Core.Path.{_≡_, refl, sym, ap, _∙_}
 use mathlib.Core.Logic.{_≢_}
-use mathlib.Core.List.{List, [], _∷_}
+use mathlib.Core.List.{List}
 use mathlib.Core.Bool.{Bool, true, false, cond, _&&_}
 use Prim.Native.Nat.{ℕ, zero, suc, _-_, _<_, _≤_}
 use native.Mathlib.Decide.{decLt}
 use native.Mathlib.Omega.{arith}
 use borrow.Author.Tests.{le-leb, lt-leb}
 use lib.Dec.{leb}
-use lib.ListN.{length, take, drop}
+use lib.ListN.{take, drop}
 use Rattle.fit.specs.Fit.{within}
 use Rattle.script.specs.Cursor.{Next, ReadFirst, goingOn}
-use Rattle.script.specs.Decimals.{isNumber, valueOf, capped, valued, shift, numbers}
+use Rattle.script.specs.Decimals.{isNumber, valueOf, capped, valued, numbers}
 use Rattle.script.specs.Split.{words}
 use Rattle.script.specs.declared.Why.the-variants.{UnknownWord, NumberMissing, TooManyWords, NumberRange}
 use Rattle.script.specs.declared.rules.numbers.First.{First}

@@ -1,28 +1,18 @@
 -- Laws of lines and words.
-use mathlib.Core.Path.{_≡_, refl, ap, _∙_}
+use mathlib.Core.Path.{_≡_, refl, _∙_}
 use mathlib.Core.List.{List, [], _∷_, _++_}
 use mathlib.Core.Bool.{Bool, true, false, cond, false≢true}
-use Prim.Native.Nat.{ℕ, _+_}
+use Prim.Native.Nat.{ℕ}
 use lib.Dec.{eqb}
 use borrow.Author.Tests.{not-true}
 use Rattle.lists.specs.Every.{All}
 use Rattle.text.specs.Hex.{isBlank}
-use Rattle.script.specs.Split.{onto, lines, goesOn, words, inside, lead, rest}
+use Rattle.script.specs.Split.{onto, lines, goesOn, words, inside, lead}
 use Rattle.script.specs.declared.rules.words.Part.the-variants.{Word, Line}
 
 -- every character passes a test
 abbrev pub Each : (ℕ → Bool) → List ℕ → Type 0
 Each t cs = All (λ c. t c ≡ true) cs
-
--- a text is what passes a test and what is left behind it
-pub lead-rest : (t : ℕ → Bool) (cs : List ℕ) → lead t cs ++ rest t cs ≡ cs
-unfolding lead rest
-lead-rest t [] = refl
-lead-rest t (c ∷ cs) = go (t c) (lead-rest t cs)
-  where
-    go : (b : Bool) → lead t cs ++ rest t cs ≡ cs → cond b (c ∷ lead t cs) [] ++ cond b (rest t cs) (c ∷ cs) ≡ c ∷ cs
-    go true e = ap (λ (l : List ℕ). c ∷ l) e
-    go false e = refl
 
 pub lead-each : (t : ℕ → Bool) (cs : List ℕ) → Each t (lead t cs)
 unfolding lead

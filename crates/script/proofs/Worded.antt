@@ -15,7 +15,7 @@ use Rattle.text.specs.Quoted.{text}
 use Rattle.text.proofs.Digits.{length-decimal}
 use Rattle.election.specs.Commands.{Command, SetUp, Start, Crash, Link, Run, Lose, Report, Rank, decode}
 use Rattle.script.specs.Entries.{entry, entries}
-use Rattle.script.specs.Pieces.{Phrased, longestLine}
+use Rattle.script.specs.Pieces.{Phrased, lineRoom}
 use Rattle.script.specs.Shown.{entryOf, numbersOf, spaced, written, lineOf, isIdle}
 use Rattle.script.specs.declared.rules.written.Phrase.{Phrase}
 
@@ -128,7 +128,7 @@ short (Lose p q) = omega arith
 short Report = omega arith
 short (Rank p r) = omega arith
 
-pub line-room : (c : Command) → length (lineOf c) ≤ longestLine
+pub line-room : (c : Command) → length (lineOf c) ≤ lineRoom
 unfolding written lineOf
 line-room c =
     omega (arith, length-append (entry (entryOf c) .name ++ spaced (numbersOf c)) newline, length-append (entry (entryOf c) .name) (spaced (numbersOf c)), short c, spaced-room (numbersOf c), few c)

@@ -1,15 +1,15 @@
 -- A text assembled: the commands of its lines, as bytes, or the first line that is wrong and why.
 use mathlib.Core.List.{List, [], _∷_, _++_}
-use mathlib.Core.Bool.{Bool, cond}
+use mathlib.Core.Bool.{cond}
 use Prim.Native.Nat.{ℕ, _+_}
 use lib.Dec.{ltb, eqb}
 use lib.ListN.{length, drop}
 use Rattle.lists.specs.Entries.{over}
-use Rattle.election.specs.Commands.{Command, decode}
+use Rattle.election.specs.Commands.{Command}
 use Rattle.election.specs.Schedule.{mostBytes}
 use Rattle.script.specs.Decimals.{numbers}
 use Rattle.script.specs.Encoded.{encodeAll}
-use Rattle.script.specs.Entries.{Entry, runs, mostRuns, entries, entry, chosen}
+use Rattle.script.specs.Entries.{Entry, entries, entry, chosen}
 use Rattle.script.specs.Split.{lines, words, inside, lead}
 use Rattle.script.specs.declared.Assembled.{Assembled}
 use Rattle.script.specs.declared.Assembled.the-variants as code
@@ -23,6 +23,11 @@ use Rattle.script.specs.declared.rules.words.Part.the-variants.{Uncommen
 pub data Meant : Type 0 where
   Commands : List Command → Meant
   Wrong : Why → Meant
+
+-- its commands; none where it is wrong
+abbrev pub commandsOf : Meant → List Command
+commandsOf (Commands cs) = cs
+commandsOf (Wrong why) = []
 
 abbrev pub made : Entry → Numbers → Meant
 made e (read.Three x y z) = Commands (e .makes x y z)

@@ -1,9 +1,9 @@
--- Texts assembled, computed: each entry of the table, blanks and comments, each thing that can be wrong, and the line that holds a byte.
+-- Texts assembled, computed: each entry of the table, blanks and comments, each thing that can be wrong with a line, a buffer that is short, and the line that holds a byte.
 use mathlib.Core.Path.{_≡_}
 use mathlib.Core.List.{List, [], _∷_, _++_}
 use Prim.Native.Nat.{ℕ}
 use Rattle.text.specs.Quoted.{text}
-use Rattle.script.specs.Assembled.{Script, Schedule, WrongAt, script}
+use Rattle.script.specs.Assembled.{Schedule, WrongAt, script}
 use Rattle.script.specs.Places.{lineHolding}
 use Rattle.script.specs.declared.Why.{Why}
 use Rattle.script.specs.declared.Why.the-variants.{UnknownWord, NumberMissing, TooManyWords, NumberRange, BufferShort}
@@ -28,7 +28,14 @@ Empty = (script 0 [] ≡ Schedule []) × (script 0 (text "\n\n# nothing\n") ≡ 
 
 -- a run of more ticks than one command has, and the longest
 abbrev pub LongRun : Type 0
-LongRun = script 6 (text "run 70000\n") ≡ Schedule (0x05 ∷ 255 ∷ 255 ∷ 0x05 ∷ 113 ∷ 17 ∷ [])
+LongRun =
+    (script 6 (text "run 70000\n") ≡ Schedule (0x05 ∷ 255 ∷ 255 ∷ 0x05 ∷ 113 ∷ 17 ∷ []))
+    × (script 48 (text "run 1000000\n")
+    ≡ Schedule
+    (0x05 ∷ 255 ∷ 255 ∷ 0x05 ∷ 255 ∷ 255 ∷ 0x05 ∷ 255 ∷ 255 ∷ 0x05 ∷ 255 ∷ 255 ∷ 0x05 ∷ 255 ∷ 255 ∷
+    0x05 ∷ 255 ∷ 255 ∷ 0x05 ∷ 255 ∷ 255 ∷ 0x05 ∷ 255 ∷ 255 ∷ 0x05 ∷ 255 ∷ 255 ∷ 0x05 ∷ 255 ∷ 255 ∷
+    0x05 ∷ 255 ∷ 255 ∷ 0x05 ∷ 255 ∷ 255 ∷ 0x05 ∷ 255 ∷ 255 ∷ 0x05 ∷ 255 ∷ 255 ∷ 0x05 ∷ 255 ∷ 255 ∷
+    0x05 ∷ 79 ∷ 66 ∷ []))
 
 -- the second line is wrong
 abbrev second : List ℕ → Why → Type 0

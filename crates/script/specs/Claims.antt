@@ -3,12 +3,11 @@ use mathlib.Core.Path.{_≡_}
 use mathlib.Core.List.{List, [], _∷_, _++_}
 use Prim.Native.Nat.{ℕ, _+_, _≤_}
 use lib.ListN.{length}
-use Rattle.lists.specs.Every.{All}
 use Rattle.station.specs.Limits.{lastTick}
 use Rattle.election.specs.Commands.{Command, SetUp, Start, Crash, Link, Run, Lose, Report, Rank, Bytes}
 use Rattle.election.specs.Schedule.{mostBytes}
-use Rattle.script.specs.Assembled.{Meant, Commands, Wrong, ofLine, Schedule, WrongAt, script}
-use Rattle.script.specs.Encoded.{encode, decodeAll}
+use Rattle.script.specs.Assembled.{commandsOf, ofLine, Schedule, script}
+use Rattle.script.specs.Encoded.{decodeAll}
 use Rattle.script.specs.Entries.{runs, mostRuns}
 use Rattle.script.specs.Shown.{Text, shownText}
 use Rattle.script.specs.Split.{lines}
@@ -24,10 +23,6 @@ abbrev pub TextFits : Type 0
 TextFits = (room : ℕ) (bytes text : List ℕ) → shownText room bytes ≡ Text text → (length text ≤ room) × (length bytes ≤ mostBytes)
 
 -- the commands of lines, in order
-abbrev pub commandsOf : Meant → List Command
-commandsOf (Commands cs) = cs
-commandsOf (Wrong why) = []
-
 unfoldable pub inOrder : List (List ℕ) → List Command
 inOrder [] = []
 inOrder (l ∷ ls) = commandsOf (ofLine l) ++ inOrder ls

@@ -1,7 +1,7 @@
 -- What the code finds at a place of a text: the next word, an entry's words, the entry.
 use mathlib.Core.Path.{_≡_}
 use mathlib.Core.List.{List, [], _∷_}
-use mathlib.Core.Bool.{Bool, true, false}
+use mathlib.Core.Bool.{Bool, true}
 use Prim.Native.Nat.{ℕ, suc, _-_, _<_, _≤_}
 use lib.ListN.{length, take, drop}
 use Rattle.script.specs.Decimals.{shift, numbers}

@@ -4,7 +4,6 @@ use mathlib.Core.Bool.{Bool, true, cond, _&&_}
 use Prim.Native.Nat.{ℕ, zero, suc, _+_, _*_, _-_}
 use lib.Dec.{leb}
 use Rattle.fit.specs.Fit.{within}
-use Rattle.script.specs.declared.Why.{Why}
 use Rattle.script.specs.declared.Why.the-variants.{UnknownWord, NumberMissing, TooManyWords, NumberRange}
 use Rattle.script.specs.declared.rules.numbers.Numbers.{Numbers}
 use Rattle.script.specs.declared.rules.numbers.Numbers.the-variants.{Three, Wrong}

@@ -7,8 +7,7 @@ use Prim.Native.Nat.{ℕ, _<_, _≤_}
 use lib.Dec.{eqb}
 use Rattle.station.specs.Limits.{lastTick}
 use Rattle.election.specs.Commands.{decode, lastCommand}
-use Rattle.script.specs.Assembled.{Meant, Commands, Wrong}
-use Rattle.script.specs.Claims.{commandsOf}
+use Rattle.script.specs.Assembled.{Meant, Commands, Wrong, commandsOf}
 use Rattle.script.specs.Encoded.{encodeAll}
 use Rattle.script.specs.Entries.{runs, mostRuns}
 use Rattle.script.specs.Tabled.{runByte}
@@ -22,8 +21,8 @@ meaning (code.Run t) = Commands (runs mostRuns t)
 meaning (code.Wrong why) = Wrong why
 
 -- the bytes of its commands; none where it is wrong
-abbrev pub bytesOf : Line → List ℕ
-bytesOf line = encodeAll (commandsOf (meaning line))
+abbrev pub lineBytes : Line → List ℕ
+lineBytes line = encodeAll (commandsOf (meaning line))
 
 -- what the byte of an entry makes of its numbers: of a run many commands, else the one that the desk decodes
 abbrev pub madeBy : ℕ → ℕ → ℕ → ℕ → Meant
@@ -43,8 +42,8 @@ Proper (code.Run t) = t ≤ lastTick
 Proper (code.Wrong why) = Unit {0}
 
 -- the most bytes that a line has
-abbrev pub longestLine : ℕ
-longestLine = 48
+abbrev pub mostLineBytes : ℕ
+mostLineBytes = 48
 
 -- what the code reads is what the words mean
 pub record Reads (line : Line) (meant : Meant) : Type 0 where

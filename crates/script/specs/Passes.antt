@@ -40,12 +40,12 @@ measured (Schedule bytes) = answer.Done (length bytes)
 measured (WrongAt k why) = answer.Wrong k why
 
 -- a text with no wrong line, and its bytes
-abbrev pub bytesOf : Script → List ℕ
-bytesOf (Schedule bytes) = bytes
-bytesOf (WrongAt k why) = []
+abbrev pub scriptBytes : Script → List ℕ
+scriptBytes (Schedule bytes) = bytes
+scriptBytes (WrongAt k why) = []
 
 abbrev pub bytesIn : ℕ → List ℕ → List ℕ
-bytesIn room text = bytesOf (script room text)
+bytesIn room text = scriptBytes (script room text)
 
 abbrev pub Accepted : ℕ → List ℕ → Type 0
 Accepted room text = script room text ≡ Schedule (bytesIn room text)

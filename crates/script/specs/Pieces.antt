@@ -22,9 +22,9 @@ pub record Phrased (c : Command) (r : Phrase) : Type 0 where
   pub three : length (r .numbers) ≡ 3
   pub numbers : take (entry (r .entry) .numbers) (r .numbers) ≡ numbersOf c
 
--- no line is longer
-abbrev pub longestLine : ℕ
-longestLine = 80
+-- room for every line
+abbrev pub lineRoom : ℕ
+lineRoom = 80
 
 -- what is found at one of the commands, with room for so many characters
 unfoldable pub foundKnown : ℕ → List ℕ → Found

@@ -4,8 +4,7 @@ use mathlib.Core.Bool.{cond}
 use Prim.Native.Nat.{ℕ, _+_}
 use lib.Dec.{ltb}
 use lib.ListN.{length}
-use Rattle.script.specs.Assembled.{ofLine}
-use Rattle.script.specs.Claims.{commandsOf}
+use Rattle.script.specs.Assembled.{commandsOf, ofLine}
 use Rattle.script.specs.Encoded.{encodeAll}
 use Rattle.script.specs.Split.{lines}
 

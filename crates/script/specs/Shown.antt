@@ -1,11 +1,10 @@
 -- A schedule as text: a line for each command.
 use mathlib.Core.List.{List, [], _∷_, _++_}
-use mathlib.Core.Bool.{Bool, true, false, cond, not, _&&_}
+use mathlib.Core.Bool.{Bool, false, cond}
 use Prim.Native.Nat.{ℕ, zero, suc, _+_}
 use lib.Dec.{ltb, eqb}
-use lib.ListN.{length, getD, drop}
+use lib.ListN.{length, drop}
 use Rattle.lists.specs.Entries.{over}
-use Rattle.lists.specs.First.{firstFailed}
 use Rattle.fit.specs.Fit.{within}
 use Rattle.text.specs.Numbers.{named, newline}
 use Rattle.text.specs.Quoted.{text}

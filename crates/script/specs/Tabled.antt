@@ -1,10 +1,10 @@
 -- The table of the code, entry by entry, is that of the words.
 use mathlib.Core.Path.{_≡_}
-use mathlib.Core.List.{List, [], _∷_}
-use Prim.Native.Nat.{ℕ, _+_, _<_, _≤_}
+use mathlib.Core.List.{[], _∷_}
+use Prim.Native.Nat.{ℕ, _<_, _≤_}
 use lib.ListN.{length, take}
 use Rattle.station.specs.Limits.{lastTick}
-use Rattle.election.specs.Commands.{Command, decode, lastCommand}
+use Rattle.election.specs.Commands.{decode, lastCommand}
 use Rattle.script.specs.Entries.{entry, runs, mostRuns}
 use Rattle.script.specs.declared.rules.entries.Entry.{Entry}
 

@@ -5,7 +5,7 @@ ghost use lib.ListN.{length};
 ghost use Rattle.text.specs.Wrote.{Wrote};
 ghost use Rattle.election.specs.Schedule.{mostBytes};
 ghost use Rattle.script.specs.Assembled.{script};
-ghost use Rattle.script.specs.Meanings.{meaning, Proper, bytesOf};
+ghost use Rattle.script.specs.Meanings.{meaning, Proper, lineBytes};
 ghost use Rattle.script.specs.Passes.{LineAt, fitted, stepped, measured, bytesIn, Accepted};
 use crate::Assembled;
 use crate::Why;
@@ -47,7 +47,7 @@ pub enum Step {
 // The bytes of a line counted to those before it.
 fn count_bytes(line: Line, size: usize, room: usize) -> Step
     requires { ⌜ Proper line × (size ≤ mostBytes) ⌝ }
-    ensures { λ r. ⌜ r ≡ fitted room (size + length (bytesOf line)) ⌝ }
+    ensures { λ r. ⌜ r ≡ fitted room (size + length (lineBytes line)) ⌝ }
 {
     let all = size + line_size(line);
     if 65536 < all {

@@ -1,5 +1,4 @@
 // The words of the commands: one table.
-ghost use mathlib.Core.Path.{_≡_};
 ghost use Prim.Native.Nat.{_<_};
 ghost use Rattle.script.specs.Entries.{entries};
 ghost use Rattle.script.specs.Tabled.{Tabled};

@@ -9,7 +9,7 @@ ghost use Rattle.station.specs.Limits.{lastTick};
 ghost use Rattle.script.specs.Assembled.{ofLine, ofWords};
 ghost use Rattle.script.specs.Encoded.{encode, encodeAll};
 ghost use Rattle.script.specs.Entries.{runs, mostRuns};
-ghost use Rattle.script.specs.Meanings.{madeBy, Suited, Proper, Reads, bytesOf, longestLine};
+ghost use Rattle.script.specs.Meanings.{madeBy, Suited, Proper, Reads, lineBytes, mostLineBytes};
 ghost use Rattle.script.specs.Split.{words};
 use crate::Why;
 use crate::rules::entries::entry_at;
@@ -105,8 +105,8 @@ fn put_runs(t: u32, buffer: &mut [u8]) -> usize
 
 // Writes the bytes of a line; a line that is wrong has none.
 pub fn put_line(line: Line, buffer: &mut [u8]) -> usize
-    requires { ⌜ Proper line × (length (bytesOf line) ≤ length (now buffer)) ⌝ }
-    ensures { λ r. ⌜ Wrote (bytesOf line) (now (buffer .entry)) r (now (buffer .exit)) ⌝ }
+    requires { ⌜ Proper line × (length (lineBytes line) ≤ length (now buffer)) ⌝ }
+    ensures { λ r. ⌜ Wrote (lineBytes line) (now (buffer .entry)) r (now (buffer .exit)) ⌝ }
 {
     match line {
         Line::Nothing => 0,
@@ -119,7 +119,7 @@ pub fn put_line(line: Line, buffer: &mut [u8]) -> usize
 // How many bytes a line has.
 pub fn line_size(line: Line) -> usize
     requires { ⌜ Proper line ⌝ }
-    ensures { λ r. ⌜ (r ≡ length (bytesOf line)) × (r ≤ longestLine) ⌝ }
+    ensures { λ r. ⌜ (r ≡ length (lineBytes line)) × (r ≤ mostLineBytes) ⌝ }
 {
     let mut bytes = [0u8; 48];
     put_line(line, &mut bytes)

@@ -5,7 +5,7 @@ ghost use lib.ListN.{length, getD};
 ghost use Rattle.text.specs.Wrote.{Wrote};
 ghost use Rattle.election.specs.Commands.{decode};
 ghost use Rattle.script.specs.Entries.{entry, entries};
-ghost use Rattle.script.specs.Pieces.{Phrased, longestLine};
+ghost use Rattle.script.specs.Pieces.{Phrased, lineRoom};
 ghost use Rattle.script.specs.Shown.{spaced, lineOf};
 use crate::rules::entries::entry_at;
 use text::rules::put;
@@ -102,7 +102,7 @@ pub fn put_line(bytes: &[u8], buffer: &mut [u8]) -> usize
 
 // How long that line is.
 pub fn line_size(bytes: &[u8]) -> usize
-    ensures { λ r. ⌜ (r ≡ length (lineOf (decode (now (bytes .entry))))) × (r ≤ longestLine) ⌝ }
+    ensures { λ r. ⌜ (r ≡ length (lineOf (decode (now (bytes .entry))))) × (r ≤ lineRoom) ⌝ }
 {
     let mut scratch = [0u8; 80];
     put_line(bytes, &mut scratch)

@@ -3,9 +3,6 @@ use Rattle.script.proofs.Passing.{fitted-long, fitted-short, fitted-all
 use borrow.Author.Needs.{needs}
 use Rattle.script.proofs.rules.assembling.count_bytes.Statement.{statement}
 use Rattle.script.proofs.rules.assembling.count_bytes.Tie as tie
-use Rattle.script.proofs.rules.assembling.count_bytes.Reads as reads
-use Rattle.script.proofs.rules.assembling.count_bytes.Lts as lts
-use Rattle.script.proofs.rules.lines.line_size.Reads as line-size-reads
 
 returns : tie.Need-returns
 returns c = rw (← c .before .line-size .ensures .0) (fitted-long _ _ (c .if1 .taken))

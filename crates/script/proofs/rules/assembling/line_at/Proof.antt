@@ -7,10 +7,6 @@ use Rattle.script.proofs.Passing.{line-inside, line-last}
 use borrow.Author.Needs.{needs}
 use Rattle.script.proofs.rules.assembling.line_at.Statement.{statement}
 use Rattle.script.proofs.rules.assembling.line_at.Tie as tie
-use Rattle.script.proofs.rules.assembling.line_at.Reads as reads
-use Rattle.script.proofs.rules.assembling.line_at.Lts as lts
-use Rattle.script.proofs.rules.lines.read_line.Reads as read-line-reads
-use Rattle.script.proofs.rules.words.end_of.Reads as end-of-reads
 
 part-read-line-end : tie.Need-part-read-line-end
 part-read-line-end c = part-within (inside Line) _ _ _ (omega (arith, c .before .before .pre)) (c .end-of .ensures)

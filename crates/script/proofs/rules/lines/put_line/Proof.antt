@@ -1,7 +1,5 @@
 -- The function rules::lines::put_line meets its contract.
-use mathlib.Core.Path.{ap}
 use native.Mathlib.Omega.{arith}
-use lib.ListN.{length}
 use Rattle.text.proofs.Parts.{wrote-none}
 use Rattle.script.specs.Encoded.{encodeAll}
 use Rattle.script.proofs.Coded.{encode-one}

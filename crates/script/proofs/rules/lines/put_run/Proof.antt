@@ -3,9 +3,6 @@ use Rattle.script.specs.Encoded.{encode}
 use borrow.Author.Needs.{needs}
 use Rattle.script.proofs.rules.lines.put_run.Statement.{statement}
 use Rattle.script.proofs.rules.lines.put_run.Tie as tie
-use Rattle.script.proofs.rules.lines.put_run.Reads as reads
-use Rattle.script.proofs.rules.lines.put_run.Lts as lts
-use Rattle.text.proofs.rules.put.Reads as put-reads
 
 put-requires : tie.Need-put-requires
 unfolding encode

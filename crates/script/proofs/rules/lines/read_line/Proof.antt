@@ -11,10 +11,6 @@ use Rattle.script.proofs.Leads.{part-within, part-front}
 use borrow.Author.Needs.{needs}
 use Rattle.script.proofs.rules.lines.read_line.Statement.{statement}
 use Rattle.script.proofs.rules.lines.read_line.Tie as tie
-use Rattle.script.proofs.rules.lines.read_line.Reads as reads
-use Rattle.script.proofs.rules.lines.read_line.Lts as lts
-use Rattle.script.proofs.rules.lines.read_words.Reads as read-words-reads
-use Rattle.script.proofs.rules.words.end_of.Reads as end-of-reads
 
 slice-aggregate-read-words : tie.Need-slice-aggregate-read-words
 slice-aggregate-read-words c = sym (length-take-le _ _ (part-within (inside Uncommented) _ 0 _ (omega arith) (c .before .end-of .ensures)))

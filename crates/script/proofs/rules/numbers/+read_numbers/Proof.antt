@@ -2,10 +2,9 @@
 use mathlib.Core.Path.{sym, ap, _∙_}
 use native.Mathlib.Omega.{arith}
 use borrow.Author.Needs.{needs}
-use Rattle.script.specs.Cursor.{goingOn, placeOf}
 use Rattle.script.specs.Decimals.{shift}
 use Rattle.script.proofs.Reading.{numbers-next}
-use Prim.Native.Nat.{ℕ, _<_, _-_}
+use Prim.Native.Nat.{ℕ, _<_}
 use borrow.Fn.Kinds.{In}
 use borrow.Fn.PlainCycle.{Measures, is, falls, and}
 use Rattle.script.proofs.rules.numbers.read_numbers.Reads as read-numbers

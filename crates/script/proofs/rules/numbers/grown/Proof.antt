@@ -6,8 +6,6 @@ use native.Mathlib.Omega.{arith}
 use Rattle.script.proofs.Capping.{capped-small, capped-large}
 use Rattle.script.proofs.rules.numbers.grown.Statement.{statement}
 use Rattle.script.proofs.rules.numbers.grown.Tie as tie
-use Rattle.script.proofs.rules.numbers.grown.Reads as reads
-use Rattle.script.proofs.rules.numbers.grown.Lts as lts
 
 returns : tie.Need-returns
 returns c = sym (capped-small _ (omega arith))

@@ -3,8 +3,6 @@ use native.Mathlib.Omega.{arith}
 use borrow.Author.Tests.{le-leb, lt-leb}
 use Rattle.script.proofs.rules.numbers.is_digit.Statement.{statement}
 use Rattle.script.proofs.rules.numbers.is_digit.Tie as tie
-use Rattle.script.proofs.rules.numbers.is_digit.Reads as reads
-use Rattle.script.proofs.rules.numbers.is_digit.Lts as lts
 
 returns : tie.Need-returns
 returns c = let x = c .before .before .args .c in rw (le-leb 48 x (omega arith), le-leb x 57 (omega arith))

@@ -2,8 +2,6 @@
 use borrow.Author.Needs.{needs}
 use Rattle.script.proofs.rules.numbers.shifted.Statement.{statement}
 use Rattle.script.proofs.rules.numbers.shifted.Tie as tie
-use Rattle.script.proofs.rules.numbers.shifted.Reads as reads
-use Rattle.script.proofs.rules.numbers.shifted.Lts as lts
 
 returns : tie.Need-returns
 returns c = rw (c .before .others .given .1)

@@ -8,10 +8,6 @@ use Rattle.lists.proofs.Bools.{holds, fails}
 use Rattle.script.proofs.Capping.{ReadTo, read-none, read-below, in-range, read-digit, read-other, read-all}
 use Rattle.script.proofs.rules.numbers.value_of.Statement.{statement}
 use Rattle.script.proofs.rules.numbers.value_of.Tie as tie
-use Rattle.script.proofs.rules.numbers.value_of.Reads as reads
-use Rattle.script.proofs.rules.numbers.value_of.Lts as lts
-use Rattle.script.proofs.rules.numbers.grown.Reads as grown-reads
-use Rattle.script.proofs.rules.numbers.is_digit.Reads as is-digit-reads
 
 abbrev Inv-loop : tie.InvT-loop
 Inv-loop word v₀ i₀ i-end v i = ReadTo word i v × (i ≤ length word) × (i-end ≡ length word)

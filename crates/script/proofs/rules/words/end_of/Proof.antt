@@ -1,5 +1,5 @@
 -- The function rules::words::end_of meets its contract.
-use mathlib.Core.Path.{sym, _∙_, refl}
+use mathlib.Core.Path.{refl}
 use Prim.Native.Nat.{_-_}
 use native.Mathlib.Omega.{arith}
 use lib.ListN.{length}

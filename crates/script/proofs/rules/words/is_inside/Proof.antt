@@ -1,6 +1,4 @@
 -- The function rules::words::is_inside meets its contract.
-use mathlib.Core.Path.{refl}
-use mathlib.Core.Bool.{not}
 use borrow.Author.Needs.{needs}
 use Rattle.script.specs.Split.{inside}
 use Rattle.script.proofs.rules.words.is_inside.Statement.{statement}

@@ -5,9 +5,6 @@ use Rattle.script.proofs.Leads.{part-within, next-word}
 use borrow.Author.Needs.{needs}
 use Rattle.script.proofs.rules.words.word_at.Statement.{statement}
 use Rattle.script.proofs.rules.words.word_at.Tie as tie
-use Rattle.script.proofs.rules.words.word_at.Reads as reads
-use Rattle.script.proofs.rules.words.word_at.Lts as lts
-use Rattle.script.proofs.rules.words.end_of.Reads as end-of-reads
 
 end-of-requires-2 : tie.Need-end-of-requires-2
 end-of-requires-2 c κs = part-within (inside Blanks) _ _ _ (c .before .before .pre) (c .end-of .ensures)
