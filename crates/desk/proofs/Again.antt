@@ -4,7 +4,7 @@ use mathlib.Core.List.{List}
 use Prim.Native.Nat.{ℕ}
 use native.Mathlib.Omega.{arith}
 use borrow.Author.Tests.{le-ltb}
-use lib.IntN.{ℤ, pos}
+use lib.IntN.{pos}
 use lib.ListN.{length}
 use Rattle.election.specs.Commands.{Bytes as Octets}
 use Rattle.election.specs.Schedule.{mostBytes}
@@ -13,7 +13,7 @@ use Rattle.script.specs.Shown.{Showing, Text, NoneAt, shownText}
 use Rattle.script.proofs.Fitting.{text-fits}
 use Rattle.script.proofs.Restoring.{restores}
 use Rattle.desk.specs.Claims.{BytesAgain}
-use Rattle.desk.specs.Said.{mostText, Read, ofScript, reading, Saying, onOutput, onError, assembling, showing}
+use Rattle.desk.specs.Said.{mostText, Read, reading, Saying, onOutput, assembling, showing}
 
 read-again : (bytes said : List ℕ) → Octets bytes → shownText mostText bytes ≡ Text said → reading said ≡ Read bytes
 unfolding reading

@@ -1,9 +1,8 @@
 -- Laws of what the arguments ask for, by their first word.
-use mathlib.Core.Path.{_≡_, refl, sym, ap, subst, _∙_}
-use mathlib.Core.List.{List, [], _∷_}
+use mathlib.Core.Path.{_≡_, sym, subst, _∙_}
+use mathlib.Core.List.{List, _∷_}
 use mathlib.Core.Bool.{true, false}
 use Prim.Native.Nat.{ℕ, _-_, _<_, _≤_}
-use native.Mathlib.Omega.{arith}
 use lib.ListN.{take, drop}
 use Rattle.text.specs.Quoted.{text}
 use Rattle.script.specs.Cursor.{Next}
@@ -14,7 +13,7 @@ use Rattle.script.specs.declared.rules.numbers.Numbers.the-variants.{Three}
 use Rattle.script.proofs.Sizes.{UpTo, numbers-small}
 use Rattle.desk.specs.Asked.{alone, delayOf, ofWords, asking}
 use Rattle.desk.specs.declared.asked.Mode.{Mode}
-use Rattle.desk.specs.declared.asked.Mode.the-variants.{Rehearse, Bytes, Text, Figure, Nothing}
+use Rattle.desk.specs.declared.asked.Mode.the-variants.{Rehearse, Bytes, Text, Nothing}
 
 -- a delay that was read is a byte
 pub delay-small : {d y z : ℕ} (ws : List (List ℕ)) → Three d y z ≡ numbers 1 1 255 ws → d ≤ 255

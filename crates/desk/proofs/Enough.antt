@@ -1,19 +1,17 @@
 -- What is left unread changes nothing.
-use mathlib.Core.Path.{_≡_, sym, ap, subst, _∙_}
+use mathlib.Core.Path.{_≡_, sym, subst, _∙_}
 use mathlib.Core.List.{List}
 use Prim.Native.Nat.{ℕ, _<_, _≤_}
 use native.Mathlib.Decide.{decLe, decLt}
 use native.Mathlib.Omega.{arith}
 use borrow.Author.Tests.{lt-ltb}
-use lib.IntN.{ℤ, pos}
 use lib.ListN.{length, take}
 use lib.Seq.{take-all, length-take-le}
-use Rattle.calls.specs.Calls.{Whole}
 use Rattle.election.specs.Schedule.{mostBytes}
 use Rattle.script.specs.Shown.{NoneAt, shownText}
 use Rattle.script.specs.declared.NoText.the-variants.{ScheduleLong}
 use Rattle.desk.specs.Claims.{Enough}
-use Rattle.desk.specs.Said.{mostText, Unread, reading, Saying, Says, Figuring}
+use Rattle.desk.specs.Said.{mostText, Unread, reading, Saying, Says}
 use Rattle.desk.specs.Spoken.{SpaceFor}
 use Rattle.desk.specs.Wording.{longText}
 use Rattle.desk.specs.declared.asked.Mode.{Mode}

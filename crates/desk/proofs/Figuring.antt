@@ -1,6 +1,5 @@
 -- Laws of the figure after a schedule.
-use mathlib.Core.Path.{_≡_, refl, sym, ap, _∙_}
-use mathlib.Core.Logic.{_≢_}
+use mathlib.Core.Path.{_≡_, sym, ap, _∙_}
 use mathlib.Core.Logic._⊎_.{inl, inr}
 use mathlib.Core.List.{List}
 use Prim.Native.Nat.{ℕ, _≤_}
@@ -8,7 +7,7 @@ use native.Mathlib.Omega.{arith}
 use lib.IntN.{pos}
 use lib.ListN.{length, take}
 use Rattle.election.specs.Commands.{numberOf}
-use Rattle.election.specs.Schedule.{End, mostBytes, schedule, said}
+use Rattle.election.specs.Schedule.{End, schedule, said}
 use Rattle.election.specs.declared.Ended.the-variants.{Whole, Stopped}
 use Rattle.election.specs.declared.Refusal.{Refusal}
 use Rattle.election.specs.declared.Scheduled.{Scheduled}

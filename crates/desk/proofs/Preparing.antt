@@ -1,5 +1,5 @@
 -- Laws of a text that is read: too long, wrong in a line, or a schedule.
-use mathlib.Core.Path.{_≡_, refl, sym, ap, subst, _∙_}
+use mathlib.Core.Path.{_≡_, refl, sym, ap, _∙_}
 use mathlib.Core.List.{List}
 use mathlib.Core.Bool.{Bool, true, false, cond}
 use Prim.Native.Nat.{ℕ, _<_, _≤_}
@@ -16,7 +16,7 @@ use Rattle.script.specs.Assembled.{Script, Schedule, WrongAt, script, Left, lea
 use Rattle.script.specs.declared.Assembled.the-variants.{Done, Wrong}
 use Rattle.script.specs.declared.Why.{Why}
 use Rattle.script.proofs.Sizes.{gives-bytes}
-use Rattle.desk.specs.Said.{mostText, Reading, Read, Unread, ofScript, reading}
+use Rattle.desk.specs.Said.{mostText, Read, Unread, ofScript, reading}
 use Rattle.desk.specs.Spoken.{Prepares}
 use Rattle.desk.specs.Wording.{wrongLine, longText}
 use Rattle.desk.specs.declared.said.Prepared.the-variants as code

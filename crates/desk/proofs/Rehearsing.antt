@@ -1,5 +1,5 @@
 -- Laws of a rehearsal: how it ended is said after its listings.
-use mathlib.Core.Path.{_≡_, refl, sym, ap, subst, _∙_}
+use mathlib.Core.Path.{_≡_, refl}
 use mathlib.Core.List.{List, _++_}
 use mathlib.Core.Bool.{Bool, true, false, not}
 use Prim.Native.Nat.{ℕ, _+_, _<_, _≤_, _^_}
@@ -11,7 +11,7 @@ use lib.Seq.{length-take-le}
 use Rattle.calls.specs.Calls.{Taken}
 use Rattle.calls.specs.Next.{ComesNext}
 use Rattle.calls.proofs.Left.{Left, last-next, last-taken}
-use Rattle.election.specs.Schedule.{mostBytes, schedule}
+use Rattle.election.specs.Schedule.{schedule}
 use Rattle.election.proofs.Ending.{offset-inside}
 use Rattle.text.specs.Wrote.{Wrote}
 use Rattle.text.proofs.Parts.{wrote-front, wrote-inside}

@@ -14,7 +14,7 @@ use Rattle.text.proofs.Parts.{wrote-front}
 use Rattle.script.specs.Shown.{Showing, Text, NoneAt, shownText, Left, leaving, shown}
 use Rattle.script.specs.declared.NoText.{NoText}
 use Rattle.script.specs.declared.Shown.the-variants.{Done, Refused}
-use Rattle.desk.specs.Said.{mostText, Reading, Read, Unread, reading, Saying, Says, assembling, showing, onError}
+use Rattle.desk.specs.Said.{mostText, Read, Unread, reading, Says, onError}
 use Rattle.desk.specs.Spoken.{Prepares, Spoken}
 use Rattle.desk.specs.Wording.{noText}
 use Rattle.desk.specs.declared.asked.Mode.{Mode}

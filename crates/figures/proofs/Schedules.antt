@@ -9,12 +9,10 @@ use Rattle.election.specs.Schedule.{schedule}
 use Rattle.election.specs.System.{station}
 use Rattle.election.proofs.Counts.{counts-starts, up-is-latest}
 use Rattle.election.proofs.Ranks.{rank-is-latest}
-use Rattle.settling.specs.Settling.{ahead, befores, dividedTicks, Settles}
+use Rattle.settling.specs.Settling.{ahead, Settles}
 use Rattle.settling.proofs.I-Demand.{settling}
 use Rattle.figures.specs.Claims.{LeaderOfSchedule, Promised, FiguresHold}
 use Rattle.figures.specs.Figures.{aheadOf, Leads}
-use Rattle.figures.specs.Pieces.{boundOf}
-use Rattle.figures.proofs.Bound.{bound-from-figures}
 
 -- the counts and ranks of the system are those of the accepted commands, so the order is the same
 module _ (bytes : List ℕ) (ok : schedule bytes .refusal ≡ 0) where
@@ -50,8 +48,6 @@ promised bytes stretch d L ok flash first quiet = settling bytes stretch d L ok 
 pub figures-hold : FiguresHold
 figures-hold bytes stretch d f ok flash figured some quiet = by (figured .leads)
   where
-    by : Leads (schedule bytes .system) (f .leader) → Settles d (f .leader) stretch (schedule bytes .system) × (dividedTicks (f .leader) (befores stretch (schedule bytes .system)) ≤ boundOf d f)
+    by : Leads (schedule bytes .system) (f .leader) → Settles d (f .leader) stretch (schedule bytes .system)
     by (inl (none, z)) = absurd (some (figured .heads ∙ none))
-    by (inr first) =
-        let settles = promised bytes stretch d (f .leader) ok flash first quiet in
-        (settles, rw (bound-from-figures d (schedule bytes .system) f figured) (settles .few))
+    by (inr first) = promised bytes stretch d (f .leader) ok flash first quiet

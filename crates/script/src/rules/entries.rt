@@ -13,8 +13,11 @@ pub struct Entry {
     pub code: u8,
 }
 
+// How many entries there are.
+pub const ENTRIES: usize = 10;
+
 // Where one name begins with another, the longer one stands first. An operand that has no number is 0.
-const TABLE: [Entry; 10] = [
+const TABLE: [Entry; ENTRIES] = [
     Entry {
         name: *b"set up clocks",
         size: 13,

@@ -2,6 +2,7 @@
 ghost use mathlib.Core.Path.{_≡_};
 ghost use Rattle.script.specs.Cursor.{Beginning, Choice};
 ghost use Rattle.script.specs.Entries.{same as Entries·same};
+use crate::rules::entries::ENTRIES;
 use crate::rules::entries::entry_at;
 use crate::rules::words::word_at;
 
@@ -59,7 +60,7 @@ fn begin_with(name: &[u8], text: &[u8]) -> Begun
     }
 }
 
-// The entry that a text begins with, 10 for none, and the place behind its words.
+// The entry that a text begins with, the number of entries for none, and the place behind its words.
 pub struct Found {
     pub entry: usize,
     pub at: usize,
@@ -69,7 +70,7 @@ pub struct Found {
 pub fn find(text: &[u8]) -> Found
     ensures { λ r. ⌜ Choice (now (text .entry)) (r .entry) (r .at) ⌝ }
 {
-    for k in 0..10 {
+    for k in 0..ENTRIES {
         let e = entry_at(k);
         let name = e.name;
         let size = e.size;

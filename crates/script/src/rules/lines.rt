@@ -12,6 +12,7 @@ ghost use Rattle.script.specs.Entries.{runs, mostRuns};
 ghost use Rattle.script.specs.Meanings.{madeBy, Suited, Proper, Reads, lineBytes, mostLineBytes};
 ghost use Rattle.script.specs.Split.{words};
 use crate::Why;
+use crate::rules::entries::ENTRIES;
 use crate::rules::entries::entry_at;
 use crate::rules::finding::find;
 use crate::rules::numbers::Numbers;
@@ -51,7 +52,7 @@ fn read_words(text: &[u8]) -> Line
     }
     let found = find(text);
     let k = found.entry;
-    if k == 10 {
+    if k == ENTRIES {
         return Line::Wrong(Why::UnknownWord);
     }
     let e = entry_at(k);

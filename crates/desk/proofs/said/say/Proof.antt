@@ -1,5 +1,4 @@
 -- The function said::say meets its contract.
-use lib.ListN.{length}
 use Rattle.calls.proofs.Calls.{taken-first}
 use borrow.Author.Needs.{needs}
 use Rattle.desk.proofs.said.say.Statement.{statement}
