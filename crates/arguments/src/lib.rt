@@ -1,51 +1,47 @@
 // The program's arguments, on one line.
+#![tactic(auto)]
+
 ghost use Rattle.std.specs.Prelude.{◌≤◌, length};
+ghost use Rattle.std.specs.Io.{WritesAtMost};
+
+use std::env::{Env, FillError};
 
 // The arguments on a line: whether there was room for all of them, and how long the line is.
-#[derive(Drop)]
+#[derive(Clone, Copy)]
 pub struct Gathered {
     pub whole: bool,
     pub size: usize,
 }
 
-// Puts argument k at the front of a line, and a blank after it.
-fn put_argument(k: usize, line: &mut [u8]) -> Gathered
-    ensures { result.size ≤ length line.new }
+// Puts argument k at the front of a line, and a blank after it; answers how long both are.
+fn put_argument<R: Env>(rt: &R, k: usize, line: &mut [u8]) -> Result<usize, FillError>
+    ensures { WritesAtMost result line.new }
 {
-    let size = os::arg(k, line);
-    if os::errno() != 0 {
-        return Gathered {
-            whole: false,
-            size: 0,
-        };
-    }
+    let size = rt.arg(k, line)?;
     if size == line.len() {
-        return Gathered {
-            whole: false,
-            size: 0,
-        };
+        return Err(FillError::TooLong);
     }
     line[size] = b' ';
-    Gathered {
-        whole: true,
-        size: size + 1,
-    }
+    Ok(size + 1)
 }
 
 // Puts the arguments on a line, a blank after each.
-pub fn gather(line: &mut [u8]) -> Gathered
+pub fn gather<R: Env>(rt: &R, line: &mut [u8]) -> Gathered
     ensures { result.size ≤ length line.new }
 {
     let mut at = 0;
-    for k in 1..os::arg_count() {
-        let put = put_argument(k, &mut line[at..]);
-        if !put.whole {
-            return Gathered {
-                whole: false,
-                size: 0,
-            };
+    // the first that is missing ends them; each has a byte at least, its blank, so the line has room for few
+    for k in 1..usize::MAX {
+        match put_argument(rt, k, &mut line[at..]) {
+            Ok(size) => at += size,
+            Err(FillError::NotPresent) => break,
+            Err(FillError::TooLong) => {
+                return Gathered {
+                    whole: false,
+                    size: 0,
+                };
+            }
         }
-        at += put.size;
     }
     Gathered {
         whole: true,

@@ -4,7 +4,7 @@ use mathlib.Core.List.{List, [], ◌++◌, append-nil}
 use mathlib.Core.Bool.{Bool, false}
 use Prim.Native.Nat.{ℕ, ◌+◌, ◌≤◌}
 use native.Mathlib.Omega.{arith}
-use lib.IntN.{ℤ}
+use Rattle.std.proofs.Common.{Option}
 use lib.ListN.{length, take, drop, length-drop, length-append}
 use lib.Seq.{take-append_seam, drop-append_seam, drop-drop}
 use Rattle.calls.specs.Calls.{Taken}
@@ -31,7 +31,7 @@ module _ {all : List ℕ} {done : ℕ} (text more : List ℕ) (l : Left all done
         inside = omega (arith, length-drop done all, ap length l.is, length-append text more, l.inside);
       }
 
-  pub left-some : (put : ℤ) (now : ℕ) → Taken false put now (done + length text) → Taken false put now (length all)
+  pub left-some : (put : Option ℕ) (now : ℕ) → Taken false put now (done + length text) → Taken false put now (length all)
   left-some put now (none, short) = (none, omega (arith, length-drop done all, ap length l.is, length-append text more))
 
 -- a text that is all that is left comes next, and is the last
@@ -39,7 +39,7 @@ module _ {all : List ℕ} {done : ℕ} (text : List ℕ) (l : Left all done text
   pub last-next : ComesNext all done text
   last-next = left-next {all = all} {done = done} text [] (rw append-nil l)
 
-  pub last_taken : (b : Bool) (put : ℤ) (now : ℕ) → Taken b put now (done + length text) → Taken b put now (length all)
+  pub last_taken : (b : Bool) (put : Option ℕ) (now : ℕ) → Taken b put now (done + length text) → Taken b put now (length all)
   last_taken b put now = subst (Taken b put now) (omega (arith, length-drop done all, ap length l.is, l.inside))
 
 -- where nothing is left, all was taken

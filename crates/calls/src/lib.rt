@@ -1,2 +1,5 @@
-// Calls of the system until all is done, and what they answered.
+// Reads and writes until all is done, and what they answered.
+#![tactic(auto)]
+
 pub mod rules;
+pub mod streams;

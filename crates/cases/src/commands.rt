@@ -38,7 +38,7 @@ fn headed(r: Row, s: System, command: &[u8]) -> Line {
 }
 
 // Hands a command to a system, and prints the answer; for D, with the system where it is accepted.
-pub fn command_case(r: Row, s: System, command: &[u8]) {
+pub fn command_case(rt: &HostRuntime, r: Row, s: System, command: &[u8]) {
     let done = simulator::command(s, command);
     let answer = done.answer;
     let after = done.system;
@@ -47,8 +47,8 @@ pub fn command_case(r: Row, s: System, command: &[u8]) {
         .told(refusal, length_of(answer))
         .kept(same_system(s, after));
     if (refusal == 0) & (r.operation == b'D') {
-        system(line, after).print();
+        system(line, after).print(rt);
     } else {
-        line.print();
+        line.print(rt);
     }
 }

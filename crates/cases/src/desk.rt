@@ -8,20 +8,20 @@ use crate::tryouts::tryout_case;
 use election::System;
 
 // Runs a case on a system, with the bytes after the schedule.
-fn system_case(r: Row, s: System, bytes: &mut [u8]) {
+fn system_case(rt: &HostRuntime, r: Row, s: System, bytes: &mut [u8]) {
     let operation = r.operation;
     match operation {
-        b'T' => listing_case(r.name, s, bytes),
-        b'Y' => tryout_case(r, s, bytes),
-        _ => command_case(r, s, bytes),
+        b'T' => listing_case(rt, r.name, s, bytes),
+        b'Y' => tryout_case(rt, r, s, bytes),
+        _ => command_case(rt, r, s, bytes),
     }
 }
 
 // Runs a case on the system that its schedule leaves, with its change.
-pub fn desk_case(r: Row, bytes: &mut [u8]) {
+pub fn desk_case(rt: &HostRuntime, r: Row, bytes: &mut [u8]) {
     let cut = r.cut;
     let s = simulator::schedule(front(bytes, cut)).system;
     if cut <= bytes.len() {
-        system_case(r, changed(s, r), &mut bytes[cut..]);
+        system_case(rt, r, changed(s, r), &mut bytes[cut..]);
     }
 }

@@ -15,26 +15,26 @@ fn entries(xs: [u64; 64]) -> [u16; 16] {
 }
 
 // Prints what writing answers, and the buffer.
-fn show(name: Line, w: Written, buffer: &[u8]) {
+fn show(rt: &HostRuntime, name: Line, w: Written, buffer: &[u8]) {
     name.told(write_refusal(w), length_of(w) as u64)
         .text(b", buffer")
         .octets(buffer)
-        .print();
+        .print(rt);
 }
 
 // Writes a frame, and prints the case.
-pub fn write_case(r: Row, buffer: &mut [u8]) {
+pub fn write_case(rt: &HostRuntime, r: Row, buffer: &mut [u8]) {
     let xs = r.numbers;
     let v = entries(xs);
     let many = byte(xs[34]) as usize;
     if many <= 16 {
         let w = frame::write(byte(xs[32]), byte(xs[33]), &v[..many], buffer);
-        show(r.name, w, buffer);
+        show(rt, r.name, w, buffer);
     }
 }
 
 // Reads a frame, and prints the answer.
-pub fn read_case(r: Row, bytes: &[u8]) {
+pub fn read_case(rt: &HostRuntime, r: Row, bytes: &[u8]) {
     let xs = r.numbers;
     let name = r.name;
     let received = frame::read(byte(xs[32]), bytes);
@@ -46,18 +46,18 @@ pub fn read_case(r: Row, bytes: &[u8]) {
             b", counts \x08,\x09,\x0a,\x0b,\x0c,\x0d,\x0e,\x0f",
             lists(counts, [0u32; 8]),
         )
-        .print();
+        .print(rt);
 }
 
 // Writes a clock frame, and prints the case.
-pub fn stamp_write_case(r: Row, buffer: &mut [u8]) {
+pub fn stamp_write_case(rt: &HostRuntime, r: Row, buffer: &mut [u8]) {
     let xs = r.numbers;
     let w = frame::stamp::write(byte(xs[32]), byte(xs[33]), tick(xs[34]), buffer);
-    show(r.name, w, buffer);
+    show(rt, r.name, w, buffer);
 }
 
 // Reads a clock frame, and prints the answer.
-pub fn stamp_read_case(r: Row, bytes: &[u8]) {
+pub fn stamp_read_case(rt: &HostRuntime, r: Row, bytes: &[u8]) {
     let xs = r.numbers;
     let name = r.name;
     let stamped = frame::stamp::read(byte(xs[32]), bytes);
@@ -65,5 +65,5 @@ pub fn stamp_read_case(r: Row, bytes: &[u8]) {
     name.answer(read_refusal(answer))
         .field(b", sender ", sender_of(answer) as u64)
         .field(b", stamp ", stamped.stamp as u64)
-        .print();
+        .print(rt);
 }

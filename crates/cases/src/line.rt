@@ -1,5 +1,7 @@
 // A line of text: made piece by piece, and written whole.
-#[derive(Drop)]
+use calls::rules::write_message;
+
+#[derive(Clone, Copy)]
 pub struct Line {
     pub bytes: [u8; 512],
     pub size: usize,
@@ -116,10 +118,10 @@ impl Line {
     }
 
     // Ends the line and writes it.
-    pub fn print(self) {
+    pub fn print(self, rt: &HostRuntime) {
         let line = self.byte(10);
         let bytes = line.bytes;
         let size = line.size;
-        io::write_all(1, front(&bytes, size));
+        write_message(&mut rt.stdout(), front(&bytes, size));
     }
 }

@@ -8,7 +8,7 @@ pub const BYTES: usize = 64;
 pub const NAME: usize = 65;
 
 // A line, as far as it is read.
-#[derive(Drop)]
+#[derive(Clone, Copy)]
 pub struct Row {
     // the letter of the operation, 0 for none
     pub operation: u8,

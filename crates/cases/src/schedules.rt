@@ -28,7 +28,7 @@ fn offset_of(e: Ended) -> u64
 }
 
 // Runs a schedule, and prints how it ends and the system.
-pub fn schedule_case(r: Row, bytes: &[u8]) {
+pub fn schedule_case(rt: &HostRuntime, r: Row, bytes: &[u8]) {
     let name = r.name;
     let done = simulator::schedule(bytes);
     let ended = done.ended;
@@ -36,5 +36,5 @@ pub fn schedule_case(r: Row, bytes: &[u8]) {
     let line = name
         .answer(refusal_of(ended))
         .field(b" at ", offset_of(ended));
-    system(line, s).print();
+    system(line, s).print(rt);
 }

@@ -27,12 +27,12 @@ fn verdict(line: Line, v: Verdict) -> Line {
 }
 
 // Searches the stations of a row for agreement, and prints the finding and the station where the search ended.
-pub fn search_case(r: Row) {
+pub fn search_case(rt: &HostRuntime, r: Row) {
     let name = r.name;
     let xs = r.numbers;
     let found = search(byte(xs[32]), stations_of(xs));
     let v = found.finding;
     verdict(name, v)
         .field(b", ended at ", found.ended as u64)
-        .print();
+        .print(rt);
 }

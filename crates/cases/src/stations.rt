@@ -69,7 +69,7 @@ fn clock_outcome(operation: u8, xs: [u64; 64], s: Station) -> Outcome {
 }
 
 // Hands a station to an operation, and prints the answer, with the station's fields where it is accepted.
-pub fn station_case(r: Row) {
+pub fn station_case(rt: &HostRuntime, r: Row) {
     let xs = r.numbers;
     let name = r.name;
     let clock = r.change == b'K';
@@ -88,8 +88,8 @@ pub fn station_case(r: Row) {
         .either(out.sends, b", sends", b", silent")
         .kept(unchanged);
     if refusal == 0 {
-        fields(line, after, clock).print();
+        fields(line, after, clock).print(rt);
     } else {
-        line.print();
+        line.print(rt);
     }
 }

@@ -167,22 +167,22 @@ fn named(mut r: Row, b: u8) -> Row {
 }
 
 // Runs the case of a row.
-fn run_row(r: Row, bytes: &mut [u8]) {
+fn run_row(rt: &HostRuntime, r: Row, bytes: &mut [u8]) {
     let operation = r.operation;
     match operation {
-        b'W' => write_case(r, bytes),
-        b'R' => read_case(r, bytes),
-        b'F' => stamp_write_case(r, bytes),
-        b'G' => stamp_read_case(r, bytes),
-        b'P' => schedule_case(r, bytes),
-        b'D' | b'J' | b'T' | b'Y' => desk_case(r, bytes),
-        b'V' => search_case(r),
-        _ => station_case(r),
+        b'W' => write_case(rt, r, bytes),
+        b'R' => read_case(rt, r, bytes),
+        b'F' => stamp_write_case(rt, r, bytes),
+        b'G' => stamp_read_case(rt, r, bytes),
+        b'P' => schedule_case(rt, r, bytes),
+        b'D' | b'J' | b'T' | b'Y' => desk_case(rt, r, bytes),
+        b'V' => search_case(rt, r),
+        _ => station_case(rt, r),
     }
 }
 
 // The row after the end of a line. The line's case is run.
-fn ended(r: Row, bytes: &mut [u8]) -> Row {
+fn ended(rt: &HostRuntime, r: Row, bytes: &mut [u8]) -> Row {
     let count = r.count;
     let cut = r.cut;
     let size = r.digits / 2;
@@ -190,16 +190,16 @@ fn ended(r: Row, bytes: &mut [u8]) -> Row {
         return blank(count, cut);
     }
     if size <= bytes.len() {
-        run_row(r, &mut bytes[..size]);
+        run_row(rt, r, &mut bytes[..size]);
         return blank(std::num::wrapping_add_u64(count, 1), cut);
     }
     blank(count, cut)
 }
 
 // The row and a byte more.
-fn step(r: Row, bytes: &mut [u8], b: u8) -> Row {
+fn step(rt: &HostRuntime, r: Row, bytes: &mut [u8], b: u8) -> Row {
     if b == 10 {
-        return ended(r, bytes);
+        return ended(rt, r, bytes);
     }
     if r.at == NAME {
         return named(r, b);
@@ -215,10 +215,10 @@ fn step(r: Row, bytes: &mut [u8], b: u8) -> Row {
 }
 
 // Runs every case of a table, and prints how many there are.
-pub fn run(s: &[u8], bytes: &mut [u8]) {
+pub fn run(rt: &HostRuntime, s: &[u8], bytes: &mut [u8]) {
     let mut row = blank(0, 0);
     for k in 0..s.len() {
-        row = step(row, bytes, s[k]);
+        row = step(rt, row, bytes, s[k]);
     }
-    Line::new().field(b"cases ", row.count).print();
+    Line::new().field(b"cases ", row.count).print(rt);
 }

@@ -31,7 +31,7 @@ fn sixteen(s: &[u8]) -> [u8; 16] {
 }
 
 // Tries a command out on a system, and prints the answer and the buffer.
-fn try_out(name: Line, s: System, command: &[u8], buffer: &mut [u8]) {
+fn try_out(rt: &HostRuntime, name: Line, s: System, command: &[u8], buffer: &mut [u8]) {
     let done = dry_run(s, command, buffer);
     let attempt = done.attempt;
     let after = done.system;
@@ -41,14 +41,14 @@ fn try_out(name: Line, s: System, command: &[u8], buffer: &mut [u8]) {
         .byte(10)
         .text(buffer)
         .byte(b'|')
-        .print();
+        .print(rt);
 }
 
 // Tries the command of a row out, which has at most sixteen bytes, with the bytes after it as the buffer.
-pub fn tryout_case(r: Row, s: System, bytes: &mut [u8]) {
+pub fn tryout_case(rt: &HostRuntime, r: Row, s: System, bytes: &mut [u8]) {
     let size = std::num::wrapping_sub_usize(r.part, r.cut);
     let command = sixteen(bytes);
     if size <= bytes.len() {
-        try_out(r.name, s, front(&command, size), &mut bytes[size..]);
+        try_out(rt, r.name, s, front(&command, size), &mut bytes[size..]);
     }
 }

@@ -3,13 +3,11 @@ use mathlib.Core.Path.{◌≡◌, refl, sym, ◌∙◌}
 use mathlib.Core.Logic.{◌⊎◌}
 use mathlib.Core.Logic.◌⊎◌.{inl, inr}
 use mathlib.Core.Bool.{false, ◌&&◌, ◌||◌, or-false}
-use Prim.Native.Nat.{ℕ}
 use lib.Dec.{eqb}
 use borrow.Author.Tests.{eq-eqb, ne_eqb}
 use Rattle.lists.proofs.Bools.{or_right}
-use Rattle.station.specs.declared.Station.{Station}
 use Rattle.clock.specs.Claims.{SendsSelf}
-use Rattle.clock.specs.Rules.{slotted, sends}
+use Rattle.clock.specs.Rules.{sends}
 use Rattle.clock.proofs.Elimination.{slotted-elim}
 
 pub sends-self : SendsSelf

@@ -1,4 +1,6 @@
 // The open operations of a head with a running clock and no flash: each tests what it is handed, and refuses or does what the rule says.
+#![tactic(auto)]
+
 ghost use Rattle.std.specs.Prelude.{◌≡◌};
 ghost use Rattle.operations.specs.Operations.{said};
 ghost use Rattle.clock.specs.Operations.{starting, crashing, hearing, expiring, slotting};

@@ -9,8 +9,6 @@ use native.Mathlib.Omega.{arith}
 use lib.Dec.{eqb, ltb}
 use lib.ListN.{length, get_or}
 use borrow.Author.Tests.{eqb-true}
-use denote.Enum.Declared.{tag_of}
-use types.Run.{OneOf, miss}
 use Rattle.lists.specs.First.{first_failed}
 use Rattle.fit.specs.Fit.{within}
 use Rattle.election.specs.Sound.{sound}
@@ -23,7 +21,6 @@ use Rattle.decision.specs.Decided.{Turned, Taken, Sees, decided, meaning}
 use Rattle.decision.specs.declared.Decision.{Decision}
 use Rattle.decision.specs.declared.Decision.TheVariants as code
 use Rattle.decision.proofs.Bytes.{width_of}
-use Rattle.decision.specs.contracts.Decision.{the_type}
 
 -- what is decided from a system's values is decided of the system
 pub decided-by : (s : System) (bytes : List ℕ) (k : ℕ) (d : Decision) → sound s ≡ true → (k < 8) × (get_or bytes 1 0 ≤ 8 → get_or bytes 1 0 - 1 ≡ k)
@@ -74,17 +71,10 @@ pub last-test : (passed : Bool) (c : Command) → cond passed (Taken c) (Turned 
 last-test true c = refl
 last-test false c = refl
 
--- the decisions that are no refusal, and those that are no rank
-abbrev taking : List ℕ
-taking = 1 ∷ 2 ∷ 3 ∷ 4 ∷ 5 ∷ 6 ∷ 7 ∷ 8 ∷ []
-
-abbrev no_rank : List ℕ
-no_rank = 0 ∷ 1 ∷ 2 ∷ 3 ∷ 4 ∷ 5 ∷ 6 ∷ 7 ∷ []
-
 -- a decision that is no refusal is taken; of a rank this needs that no station was ever started
-not_refused : (s : System) (d : Decision) → OneOf taking (tag_of the_type d) → OneOf no_rank (tag_of the_type d) ⊎ (none_started s.stations ≡ true)
+not_refused : (s : System) (d : Decision) → ((why : Refusal) → d ≡ code.Refused why → ⊥) → ((p r : ℕ) → d ≡ code.Rank p r → ⊥) ⊎ (none_started s.stations ≡ true)
     → (k : ℕ) (c : Command) → meaning s d ≡ decided k c → k ≡ 0
-not_refused s (code.Refused why) h i k c m = absurd (miss taking 0 tt h)
+not_refused s (code.Refused why) h i k c m = absurd (h why refl)
 not_refused s (code.SetUp clock n period) h i k c m = (taken-by k c m).0
 not_refused s (code.Start p) h i k c m = (taken-by k c m).0
 not_refused s (code.Crash p) h i k c m = (taken-by k c m).0
@@ -92,7 +82,7 @@ not_refused s (code.Link p q x) h i k c m = (taken-by k c m).0
 not_refused s (code.Run t) h i k c m = (taken-by k c m).0
 not_refused s (code.Lose p q) h i k c m = (taken-by k c m).0
 not_refused s code.Report h i k c m = (taken-by k c m).0
-not_refused s (code.Rank p r) h (inl other) k c m = absurd (miss no_rank 8 tt other)
+not_refused s (code.Rank p r) h (inl other) k c m = absurd (other p r refl)
 not_refused s (code.Rank p r) h (inr none) k c m = (taken-by k c (sym (ap (λ b. cond b (Taken (Rank p r)) (Turned 23)) none) ∙ m)).0
 
 -- where no test failed, none of the later ones did
@@ -116,7 +106,7 @@ module _ (s : System) (bytes : List ℕ) (d : Decision) where
   refused-number why ok m e = ruled s bytes ok ∙ turned_by (ruling s bytes) (decode bytes) (sym e ∙ m)
 
   -- not turned down, it is accepted
-  pub accepted : OneOf taking (tag_of the_type d) → OneOf no_rank (tag_of the_type d) ⊎ (none_started s.stations ≡ true) → sound s ≡ true → meaning s d ≡ decided (ruling s bytes) (decode bytes) → (command s bytes).refusal ≡ 0
+  pub accepted : ((why : Refusal) → d ≡ code.Refused why → ⊥) → ((p r : ℕ) → d ≡ code.Rank p r → ⊥) ⊎ (none_started s.stations ≡ true) → sound s ≡ true → meaning s d ≡ decided (ruling s bytes) (decode bytes) → (command s bytes).refusal ≡ 0
   unfolding command
   accepted h i ok m = ruled s bytes ok ∙ not_refused s d h i (ruling s bytes) (decode bytes) m
 

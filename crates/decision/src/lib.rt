@@ -1,5 +1,7 @@
 // What is decided of a command before anything is done: turned down for the first test that it fails, or taken. No system is needed for
 // it, only a few of its values, and the station that the command names; but for the last test of a rank, 23, which is none_started.
+#![tactic(auto)]
+
 ghost use Rattle.std.specs.Prelude.{◌≡◌, true, ◌&&◌, ◌+◌, ◌*◌, ◌-◌, ◌<◌, ◌≤◌, eqb, get_or};
 ghost use Rattle.lists.specs.First.{first_failed};
 ghost use Rattle.fit.specs.Fit.{within};
@@ -19,7 +21,7 @@ pub mod widths;
 const LAST: u64 = LAST_TICK as u64;
 
 // A command that is turned down, or taken with its operands.
-#[derive(Drop)]
+#[derive(Clone, Copy)]
 pub enum Decision {
     Refused(Refusal),
     SetUp { clock: bool, n: u8, period: u8 },

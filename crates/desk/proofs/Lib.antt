@@ -4,6 +4,7 @@ pub mod Asking
 pub mod Computed
 pub mod Enough
 pub mod Figuring
+pub mod Knowing
 pub mod Preparing
 pub mod Rehearsing
 pub mod Room

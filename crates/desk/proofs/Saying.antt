@@ -4,7 +4,8 @@ use mathlib.Core.List.{List}
 use mathlib.Core.Bool.{Bool, true, false, not}
 use Prim.Native.Nat.{ℕ, ◌≤◌}
 use native.Mathlib.Omega.{arith}
-use lib.IntN.{ℤ, pos}
+use lib.IntN.{pos}
+use Rattle.std.proofs.Common.{Option}
 use lib.ListN.{length, take, drop, length-append}
 use Rattle.calls.proofs.Calls.{taken-all, taken-some}
 use Rattle.lists.specs.Entries.{over}
@@ -14,8 +15,8 @@ use Rattle.text.proofs.Parts.{wrote_front}
 use Rattle.script.specs.Shown.{Showing, Text, NoneAt, shown_text, Left, leaving, shown}
 use Rattle.script.specs.declared.NoText.{NoText}
 use Rattle.script.specs.declared.Shown.TheVariants.{Done, Refused}
-use Rattle.desk.specs.Said.{most_text, Read, Unread, reading, Says, on_error}
-use Rattle.desk.specs.Spoken.{Prepares, Spoken}
+use Rattle.desk.specs.Said.{most_text, Read, Unread, reading, Saying, Says, on_error}
+use Rattle.desk.specs.Spoken.{Prepares, Spoken, SpokenTo}
 use Rattle.desk.specs.Wording.{no_text}
 use Rattle.desk.specs.declared.asked.Mode.{Mode}
 use Rattle.desk.specs.declared.asked.Mode.TheVariants as mode
@@ -76,8 +77,22 @@ pub says-no_text : (given : List ℕ) (at : ℕ) (why : NoText) {old line : List
 says-no_text given at why e w = rw e (ap on_error (wrote_front w))
 
 -- what is said was taken whole, or some of it is left
-pub all_spoken : {m : Mode} {given : List ℕ} {b : Bool} {put : ℤ} {done : ℕ} → Spoken m given b put done → not b ≡ false → Spoken m given true put done
+pub all_spoken : {m : Mode} {given : List ℕ} {b : Bool} {put : Option ℕ} {done : ℕ} → Spoken m given b put done → not b ≡ false → Spoken m given true put done
 all_spoken {b = b} s h = record { saying = s.saying; says = s.says; taken = taken-all b _ s.taken h }
 
-pub some_unspoken : {m : Mode} {given : List ℕ} {b : Bool} {put : ℤ} {done : ℕ} → Spoken m given b put done → not b ≡ true → Spoken m given false put done
+pub some_unspoken : {m : Mode} {given : List ℕ} {b : Bool} {put : Option ℕ} {done : ℕ} → Spoken m given b put done → not b ≡ true → Spoken m given false put done
 some_unspoken {b = b} s h = record { saying = s.saying; says = s.says; taken = taken-some b _ s.taken h }
+
+-- the same of where it went
+module _ {m : Mode} {given : List ℕ} {b : Bool} {put : Option ℕ} {done : ℕ} {out out' err err' : Option (List ℕ)} (s : SpokenTo m given b put done out out' err err') where
+  pub all_said : not b ≡ false → SpokenTo m given true put done out out' err err'
+  unfolding all_spoken
+  all_said h = record { spoken = all_spoken s.spoken h; goes = s.goes }
+
+  pub some_unsaid : not b ≡ true → SpokenTo m given false put done out out' err err'
+  unfolding some_unspoken
+  some_unsaid h = record { spoken = some_unspoken s.spoken h; goes = s.goes }
+
+  -- and where the same is said for more
+  pub said_for : (more : List ℕ) → ((x : Saying) → Says m given x → Says m more x) → SpokenTo m more b put done out out' err err'
+  said_for more same = record { spoken = record { saying = s.spoken.saying; says = same s.spoken.saying s.spoken.says; taken = s.spoken.taken }; goes = s.goes }

@@ -1,5 +1,5 @@
 -- What is claimed of what desk says; the theorems are in proofs/.
-use Rattle.std.specs.Prelude.{◌≡◌, List, ℕ, ◌≤◌, ℤ, pos, length, take}
+use Rattle.std.specs.Prelude.{◌≡◌, List, ℕ, ◌≤◌, Option, Some, length, take}
 use Rattle.calls.specs.Calls.{Whole}
 use Rattle.election.specs.Commands.{Bytes as Octets}
 use Rattle.desk.specs.Said.{Saying, on_output, Says}
@@ -10,7 +10,7 @@ use Rattle.desk.specs.declared.asked.Mode.TheVariants as mode
 -- where all was read that matters, the rest of what was given, if there is any, changes nothing of what is said
 abbrev pub Enough : Type 0
 Enough =
-    (m : Mode) (given : List ℕ) (got : ℤ) (size room : ℕ) → SpaceFor m room → Whole got size room → (got ≡ pos 0 → length given ≤ size)
+    (m : Mode) (given : List ℕ) (got : Option ℕ) (size room : ℕ) → SpaceFor m room → Whole got size room → (got ≡ Some 0 → length given ≤ size)
     → (s : Saying) → Says m (take size given) s → Says m given s
 
 -- what `desk text` writes of some bytes, `desk bytes` makes these bytes of again

@@ -10,7 +10,7 @@ use script::rules::numbers::{Numbers, read_numbers};
 use script::rules::words::word_at;
 
 // Rehearse a text; write its bytes; write the text of bytes; tell the figure for delays up to so many ticks; or the arguments ask for nothing that there is.
-#[derive(Drop)]
+#[derive(Clone, Copy)]
 pub enum Mode {
     Rehearse,
     Bytes,

@@ -1,5 +1,5 @@
 -- Try-outs computed: around the length of the listing after a command, refused, where nothing is set up, and unsound.
-use Rattle.std.specs.Prelude.{◌≡◌, List, [], ◌∷◌, ◌++◌, ℕ, ◌+◌, length, replicate}
+use Rattle.std.specs.Prelude.{◌≡◌, List, [], ◌∷◌, ◌++◌, ℕ, length, replicate}
 use Rattle.text.specs.Quoted.{text}
 use Rattle.election.specs.Rows.{set_up, start, crash, report}
 use Rattle.election.specs.Schedule.{schedule}

@@ -1,4 +1,6 @@
 // A try-out: what one command would do, shown before it is given.
+#![tactic(auto)]
+
 ghost use Rattle.std.specs.Prelude.{◌≡◌};
 ghost use Rattle.election.specs.Commands.{length_of};
 ghost use Rattle.election.specs.Commands.{refusal_of as number_in};
@@ -9,7 +11,7 @@ use listing::listing;
 use simulator::command;
 
 // Whether the command is accepted and the listing after it is shown, or why one of them is turned down, the command first.
-#[derive(Drop)]
+#[derive(Clone, Copy)]
 pub enum Attempt {
     Accepted,
     Refused(Refusal),
@@ -17,7 +19,7 @@ pub enum Attempt {
 
 // What a try-out answers: the attempt, how many bytes of a listing were written, and the system that was handed over, as it was. Both a
 // refusal and a length are answered where a refused command shows the listing as it was.
-#[derive(Drop)]
+#[derive(Clone, Copy)]
 pub struct Outcome {
     pub attempt: Attempt,
     pub written: usize,

@@ -1,6 +1,6 @@
 -- The laws of a kind of head: all that the laws of a tick and of the commands rest on, for both kinds. What stands above goes by these, and knows
 -- no kind.
-use mathlib.Core.Path.{◌≡◌, refl, sym, ap, ◌∙◌}
+use mathlib.Core.Path.{◌≡◌, refl}
 use mathlib.Core.Logic.{◌≢◌}
 use mathlib.Core.Logic.◌⊎◌.{inl, inr}
 use mathlib.Core.List.{List}

@@ -1,10 +1,12 @@
 // The election of all stations over links: the types messages, links, system, and the answers. There is no function here:
 // specs/ has the definitions in the paper's order, proofs/ the theorems.
+#![tactic(auto)]
+
 use station::Station;
 
 // A LEADER under way: the tick of its sending, the tick at which it is due, and the sender's counts, or its stamp if the heads have
 // clocks; the other is zero.
-#[derive(Drop)]
+#[derive(Clone, Copy)]
 pub struct Message {
     pub sent: u32,
     pub due: u32,
@@ -17,7 +19,7 @@ pub const PLACES: usize = 16;
 
 // The messages under way from one station to another, oldest sending first: how many there are, and
 // their places, the used ones first.
-#[derive(Drop)]
+#[derive(Clone, Copy)]
 pub struct Link {
     pub used: u8,
     pub messages: [Message; PLACES],
@@ -25,7 +27,7 @@ pub struct Link {
 
 // All stations and links (document 01's table). Station p stands at p - 1, the link from p to q at
 // 8 * (p - 1) + (q - 1).
-#[derive(Drop)]
+#[derive(Clone, Copy)]
 pub struct System {
     // whether it is set up
     pub ready: bool,
@@ -45,7 +47,7 @@ pub struct System {
 }
 
 // Why something is turned down.
-#[derive(Drop)]
+#[derive(Clone, Copy)]
 pub enum Refusal {
     UnknownCommand,
     MissingOperand,
@@ -69,14 +71,14 @@ pub enum Refusal {
 }
 
 // What a command or a listing answers: its length, or why it was turned down.
-#[derive(Drop)]
+#[derive(Clone, Copy)]
 pub enum Answer {
     Done(usize),
     Refused(Refusal),
 }
 
 // The verdict: no station is up; all up stations trust L, and L is up; all trust L, and L is down; or they differ, or one trusts nobody.
-#[derive(Drop)]
+#[derive(Clone, Copy)]
 pub enum Verdict {
     Dark,
     Agreed(u8),
@@ -85,27 +87,27 @@ pub enum Verdict {
 }
 
 // What the search for agreement answers: its finding, and the number of the station where the search ended.
-#[derive(Drop)]
+#[derive(Clone, Copy)]
 pub struct Searched {
     pub finding: Verdict,
     pub ended: u8,
 }
 
 // What a command answers, with the system.
-#[derive(Drop)]
+#[derive(Clone, Copy)]
 pub struct Commanded {
     pub answer: Answer,
     pub system: System,
 }
 
 // What a schedule answers, with the system: its length, or the refusal of the command at an offset.
-#[derive(Drop)]
+#[derive(Clone, Copy)]
 pub enum Ended {
     Whole(usize),
     Stopped { at: usize, refusal: Refusal },
 }
 
-#[derive(Drop)]
+#[derive(Clone, Copy)]
 pub struct Scheduled {
     pub ended: Ended,
     pub system: System,

@@ -1,5 +1,7 @@
 // The LEADER frame and the clock frame for programs in other languages: a slice is a pointer and a length there, and what is lent by `&mut`
 // is a pointer.
+#![tactic(auto)]
+
 ghost use Rattle.std.specs.Prelude.{◌≡◌};
 ghost use Rattle.frame.specs.Writing.{Writing, writing};
 ghost use Rattle.frame.specs.Reading.{Reading, reading};

@@ -1,4 +1,6 @@
 // Whether a sound system could hand over a station, a head with flash: the tests behind refusal 15. No sum in them wraps.
+#![tactic(auto)]
+
 ghost use Rattle.std.specs.Prelude.{◌≡◌, cond, ◌+◌, ◌-◌, ◌<◌, ◌≤◌, min, eqb};
 ghost use Rattle.station.specs.Rules.{other};
 ghost use Rattle.fit.specs.Fit.{within, ranges, kept_in, vectorless, clockless, cleared, count_in, counts_in, rank_in, ranks_in, timeout_in, timeouts_in, alive, slot_in, timer_in, standing, fit, just_set, timeouts_at, fit_start, fit_crash, fit_expire, in_tick, fit_message, heard_before, fit_hear, unended, ended, fit_slot};

@@ -1,4 +1,6 @@
 // The LEADER frame: 10 hex, the sender, n and n counts; written into a lent buffer, read from lent bytes. The clock frame is in src/stamp.rt.
+#![tactic(auto)]
+
 ghost use Rattle.std.specs.Prelude.{◌≡◌, ◌+◌, ◌*◌, ◌<◌, ◌≤◌, length, replicate};
 ghost use Rattle.lists.specs.Entries.{over};
 ghost use Rattle.frame.specs.Frame.{frame, header, frame_size, is_length, stations_in, sender_in, counts_in};
@@ -10,7 +12,7 @@ pub mod numbers;
 pub mod stamp;
 
 // What writing answers: the length written, or why nothing was.
-#[derive(Drop)]
+#[derive(Clone, Copy)]
 pub enum Written {
     Bytes(usize),
     Stations,
@@ -21,7 +23,7 @@ pub enum Written {
 }
 
 // What reading answers: the sender, or why the bytes are no frame.
-#[derive(Drop)]
+#[derive(Clone, Copy)]
 pub enum Receipt {
     From(u8),
     Stations,
@@ -33,7 +35,7 @@ pub enum Receipt {
 }
 
 // The answer, and the counts: zero beyond n, and zero where refused.
-#[derive(Drop)]
+#[derive(Clone, Copy)]
 pub struct Received {
     pub answer: Receipt,
     pub counts: [u16; 8],
@@ -63,6 +65,7 @@ fn sender_in(n: u8, sender: u8) -> bool
 }
 
 // Whether no count is above 4095 and the sender's own is not zero.
+#[tactic(auto, using(lists::proofs::Test::all_none, lists::proofs::Test::all_turn, crate::proofs::Ranges::one_above), unfolding(crate::specs::Frame::counts_in))]
 fn counts_in(sender: u8, counts: &[u16]) -> bool
     requires { (1 ≤ sender) × (sender ≤ length counts.now) }
     ensures { result ≡ counts_in sender counts.now }

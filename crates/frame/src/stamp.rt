@@ -8,7 +8,7 @@ ghost use Rattle.frame.specs.Writing.{said};
 use crate::{Receipt, Written, sender_in, stations_in};
 
 // The answer, and the stamp: zero where refused.
-#[derive(Drop)]
+#[derive(Clone, Copy)]
 pub struct Stamped {
     pub answer: Receipt,
     pub stamp: u32,
@@ -66,6 +66,7 @@ pub fn write(n: u8, sender: u8, stamp: u32, buffer: &mut [u8]) -> Written
 }
 
 // Reads the clock frame that the bytes are.
+#[tactic(auto, unfolding(crate::specs::Stamp::stamp_reading))]
 pub fn read(n: u8, bytes: &[u8]) -> Stamped
     ensures { saidRead result ≡ stamp_reading n bytes.now }
 {

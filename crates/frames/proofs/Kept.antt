@@ -20,7 +20,7 @@ use Rattle.frame.proofs.Lengths.{lengths}
 use Rattle.frame.proofs.Ranges.{stations-range}
 use Rattle.frames.specs.Explained.{own_count, frame_text, found, line_text}
 use Rattle.text.specs.Hex.{Spelled, is_blank, digit_of, is_digit, no_hex, with_first, spelled}
-use Rattle.frames.specs.Line.{kept, begin, read, told, spells}
+use Rattle.frames.specs.Line.{kept, begin, read, told}
 use Rattle.frames.specs.declared.line.Line.{Line}
 use Rattle.frames.proofs.Characters.{More}
 use Rattle.frames.proofs.Own.{own-two}

@@ -5,6 +5,7 @@ pub mod Computed
 pub mod Ending
 pub mod Going
 pub mod Kept
+pub mod Moving
 pub mod Own
 pub mod Room
 pub mod Spelling

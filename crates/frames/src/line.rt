@@ -10,7 +10,7 @@ use text::rules::hex::{digit_of, is_blank};
 pub const KEPT: usize = 20;
 
 // A line as far as it is read.
-#[derive(Drop)]
+#[derive(Clone, Copy)]
 pub struct Line {
     // its number, from 1
     pub number: u64,

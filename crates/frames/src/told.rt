@@ -154,7 +154,7 @@ fn put_line(s: Line, buffer: &mut [u8]) -> usize
 }
 
 // What some bytes leave: the line, and how much was written.
-#[derive(Drop)]
+#[derive(Clone, Copy)]
 pub struct Fed {
     pub line: Line,
     pub size: usize,

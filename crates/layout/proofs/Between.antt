@@ -1,10 +1,10 @@
 -- From a system to its layout and back: what the loops over the links have done.
 use mathlib.Core.Path.{◌≡◌, refl, sym, ap, ◌∙◌}
-use mathlib.Core.List.{List, [], ◌∷◌, map}
+use mathlib.Core.List.{List, [], ◌∷◌}
 use Prim.Native.Nat.{ℕ, zero, suc, ◌+◌, ◌*◌, ◌<◌}
 use native.Mathlib.Decide.{ℕ_discrete}
 use native.Mathlib.Omega.{arith}
-use lib.ListN.{length, get_or, set, length-map, length-set}
+use lib.ListN.{length, get_or, set, length-set}
 use lib.Seq.{ext_get_or, get_or-set_same, get_or-set_other}
 use mir.Val.{Val}
 use denote.Array.{each}
@@ -18,7 +18,7 @@ use Rattle.layout.proofs.Stores.{part, link_at, length-links, link-used, link-pl
 use Rattle.election.specs.System.{no_message, no_link, places}
 use Rattle.election.specs.declared.Link.{Link}
 use Rattle.election.specs.declared.Message.{Message}
-use Rattle.election.specs.contracts.Link.{the_field}
+use Rattle.election.specs.contracts.Link.{the_row}
 
 -- the first i messages of a list stand in stretch k, and the other stretches are as they were
 pub record Placed (k : ℕ) (new ms₀ ms : List Message) (i : ℕ) : Type 0 where
@@ -53,10 +53,10 @@ placed_all k new ms₀ ms a h =
     ext_get_or no_message (part ms k) new (length-segment places no_message ms k ∙ sym h) (λ x b. a.front x (omega (arith, length-segment places no_message ms k)))
 
 -- each link of an array has all its places
-pub links-full : (links : List Link) (us : List Val) → shadow (each the_field.row.Denot the_field.row.own_val (map the_field.into links) us) → (k : ℕ) → k < length links → length (get_or links k no_link).messages ≡ places
+pub links-full : (links : List Link) (us : List Val) → shadow (each the_row.Denot the_row.own_val links us) → (k : ℕ) → k < length links → length (get_or links k no_link).messages ≡ places
 links-full [] us s k h = absurd (omega arith)
 links-full (l ∷ links) [] s k h = absurd s
-links-full (l ∷ links) (u ∷ us) s zero h = simp length-map at s.0.1.1.1.0.1.0.1
+links-full (l ∷ links) (u ∷ us) s zero h = s.0.1.1.1.0.1.0.1
 links-full (l ∷ links) (u ∷ us) s (suc k) h = links-full links us s.1 k (omega arith)
 
 -- the first k links are laid out

@@ -1,12 +1,12 @@
 -- A sound system that is laid out: its tables are full, and each link has zeros after its messages.
 use mathlib.Core.Path.{◌≡◌, sym, ap, subst, ◌∙◌}
-use mathlib.Core.List.{List, [], ◌∷◌, map}
+use mathlib.Core.List.{List, [], ◌∷◌}
 use mathlib.Core.Bool.{true, ◌&&◌}
 use Prim.Native.Nat.{ℕ, zero, suc, ◌+◌, ◌*◌, ◌<◌, ◌≤◌}
 use native.Mathlib.Decide.{dec_lt}
 use native.Mathlib.Omega.{arith}
 use lib.Dec.{eqb}
-use lib.ListN.{length, get_or, take, replicate, length-map, length-take, length-replicate, get_or-replicate}
+use lib.ListN.{length, get_or, take, replicate, length-take, length-replicate, get_or-replicate}
 use lib.Seq.{ext_get_or, get_or-take}
 use borrow.Author.Tests.{le-ltb, eqb-true}
 use denote.Array.{each}
@@ -24,7 +24,7 @@ use Rattle.election.specs.System.{no_message, no_link, station, from, to, unused
 use Rattle.election.specs.declared.Link.{Link}
 use Rattle.election.specs.declared.Message.{Message}
 use Rattle.election.proofs.Links.{Linked}
-use Rattle.election.specs.contracts.Message.{the_field}
+use Rattle.election.specs.contracts.Message.{the_row}
 use Rattle.election.proofs.Soundness.{sound-of, link-of, place_of}
 use Rattle.layout.specs.Layout.{system_of}
 use Rattle.layout.specs.declared.Layout.{Layout}
@@ -68,10 +68,10 @@ holding-is l size few rest = λ i. record { used = count i; messages = same i }
         at x h (no i) = over-beyond (take l.used l.messages) (replicate places unused) x no_message (omega (arith, count)) ∙ get_or-replicate places x unused no_message h ∙ sym (rest x (omega arith) h)
 
 -- what owning an array of messages tells: each has eight counts
-pub counts-owned : (ms : List Message) (us : List Val) → shadow (each the_field.row.Denot the_field.row.own_val (map the_field.into ms) us) → (j : ℕ) → j < length ms → length (get_or ms j no_message).counts ≡ 8
+pub counts-owned : (ms : List Message) (us : List Val) → shadow (each the_row.Denot the_row.own_val ms us) → (j : ℕ) → j < length ms → length (get_or ms j no_message).counts ≡ 8
 counts-owned [] us p j h = absurd (omega arith)
 counts-owned (m ∷ ms) [] p j h = absurd p
-counts-owned (m ∷ ms) (u ∷ us) p zero h = simp length-map at p.0.1.1.1.1.0.1.0.1
+counts-owned (m ∷ ms) (u ∷ us) p zero h = p.0.1.1.1.1.0.1.0.1
 counts-owned (m ∷ ms) (u ∷ us) p (suc j) h = counts-owned ms us p.1 j (omega arith)
 
 pub held_of : (s : Layout) → length s.stations ≡ 8 → length s.sent ≡ 8 → ((j : ℕ) → j < (64 * places) → length (get_or s.messages j no_message).counts ≡ 8) → sound (system_of s) ≡ true → s.ready ≡ true → Held (system_of s)

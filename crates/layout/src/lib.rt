@@ -1,4 +1,6 @@
 // A system laid out for the code that works on it in place.
+#![tactic(auto)]
+
 use election::{Message, PLACES};
 use station::Station;
 
@@ -6,7 +8,7 @@ pub mod rules;
 
 // A system with the messages of all links in one array, so that each is read and stored where it stands: of the link at place k how
 // many there are, and its messages from PLACES * k on, the used places first.
-#[derive(Drop)]
+#[derive(Clone, Copy)]
 pub struct Layout {
     pub ready: bool,
     pub n: u8,

@@ -12,7 +12,6 @@ use Rattle.election.specs.Listing.{tick_word, up_word, down_word, rec_word, sent
 use Rattle.text.specs.Numbers.{decimal, newline, named, vector}
 use Rattle.election.specs.Search.{searched}
 use Rattle.listing.specs.Pieces.{who, ends, listing_with}
-use Rattle.text.proofs.Parts.{room-first}
 
 -- the fields of a line, in three parts
 group : (a b c d e f : List ℕ) → a ++ b ++ c ++ d ++ e ++ f ≡ a ++ b ++ c ++ (d ++ (e ++ f))
@@ -36,13 +35,6 @@ module _ (clock : Bool) (n tick : ℕ) (stations : List Station) (sent : List �
   -- so there is room for the one where there is room for the other
   pub room : (f : Searched) {m : ℕ} → f ≡ searched n stations → length (listing_of clock n tick stations sent) ≤ m → length (listing_with clock n tick stations sent f.finding) ≤ m
   room f {m} e h = subst (λ l. length l ≤ m) (sym (listing-is f e)) h
-
-  -- and for its first line
-  pub room-tick : (v : Verdict) {m : ℕ} → length (listing_with clock n tick stations sent v) ≤ m → length (tick_word ++ decimal tick ++ newline) ≤ m
-  room-tick v h =
-      let first : List ℕ = tick_word ++ decimal tick ++ newline in
-      let ls : List ℕ = station_lines clock n stations sent in
-      room-first first ls (room-first (first ++ ls) (verdict_line v) h)
 
   -- its length is the sum of its parts'
   pub size_is : (v : Verdict) → length (listing_with clock n tick stations sent v) ≡ length (decimal tick) + length (station_lines clock n stations sent) + length (verdict_line v) + 6

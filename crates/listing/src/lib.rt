@@ -1,5 +1,7 @@
 // The listing of a system, written into a buffer that the caller lends: piece after piece, each into the part of the buffer that is left; and the
 // search for agreement, which finds its verdict.
+#![tactic(auto)]
+
 ghost use Rattle.std.specs.Prelude.{◌≡◌};
 ghost use Rattle.election.specs.Listing.{listed, said};
 

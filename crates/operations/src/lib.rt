@@ -1,6 +1,8 @@
 // The open operations of a head with flash: each tests what it is handed, and refuses or does what the rule says. Where candidates are compared,
 // the ranks of all stations are handed over too, station 1 first; a station holds none. Answer and Outcome serve both kinds of head; the operations of one with a
 // running clock are in crates/clock.
+#![tactic(auto)]
+
 ghost use Rattle.std.specs.Prelude.{◌≡◌, false};
 ghost use Rattle.operations.specs.Operations.{refusal_of, said, starting, crashing, hearing, expiring, slotting};
 
@@ -8,7 +10,7 @@ use station::{Station, rules};
 
 // Accepted, or why not: a start found the station up, or its count at 4095; or no sound system
 // could hand over these values.
-#[derive(Drop)]
+#[derive(Clone, Copy)]
 pub enum Answer {
     Accepted,
     Up,
@@ -17,7 +19,7 @@ pub enum Answer {
 }
 
 // The answer, whether LEADER is to be sent, and the station.
-#[derive(Drop)]
+#[derive(Clone, Copy)]
 pub struct Outcome {
     pub answer: Answer,
     pub sends: bool,
@@ -47,6 +49,7 @@ pub fn refused(answer: Answer, station: Station) -> Outcome
 }
 
 // Starts station me of n at a tick.
+#[tactic(auto, unfolding(crate::specs::Operations::starting))]
 pub fn start(me: u8, n: u8, period: u32, tick: u32, s: Station) -> Outcome
     ensures { said result ≡ starting me n period tick s }
 {

@@ -4,7 +4,7 @@ use mathlib.Core.List.{List, [], ◌++◌, append-nil}
 use mathlib.Core.Bool.{Bool, true, false, cond, true≢false}
 use Prim.Native.Nat.{ℕ, ◌+◌, ◌*◌, ◌<◌, ◌≤◌}
 use native.Mathlib.Omega.{arith}
-use lib.IntN.{ℤ}
+use Rattle.std.proofs.Common.{Option}
 use lib.ListN.{length, take}
 use lib.Seq.{length-take-le}
 use Rattle.lists.proofs.Bools.{cond_yes, cond_no}
@@ -87,7 +87,7 @@ module _ {bytes : List ℕ} {done : ℕ} {old : List ℕ} {s : Layout} {at : ℕ
       (full-further (length old) (system_of s) at bytes (omega (arith, st.room)) (sym (ap (λ (g : Gone). g.full) e) ∙ t))
 
   -- a write took none of what was left of them
-  pub some_left : (put : ℤ) (now : ℕ) → length bytes ≤ most_bytes → length new ≡ length old → Taken false put now (done + length (take r.size new))
+  pub some_left : (put : Option ℕ) (now : ℕ) → length bytes ≤ most_bytes → length new ≡ length old → Taken false put now (done + length (take r.size new))
       → Printed (record { whole = false; stop = r.stop; at = r.at }) bytes put now
   some_left put now short same t =
       record {
@@ -118,7 +118,7 @@ module _ {bytes : List ℕ} {done : ℕ} {old : List ℕ} {s : Layout} {at : ℕ
       at-end : ending (go_on true (length old) (system_of s) at bytes) ≡ schedule bytes
       at-end = sym ((stops true bytes (length old) (system_of s) at).at-end (sym (ap (λ (g : Gone). g.full) e) ∙ f)).ends ∙ st.leads
 
-      pub printed : (put : ℤ) → length bytes ≤ most_bytes → Printed (record { whole = true; stop = r.stop; at = r.at }) bytes put now
+      pub printed : (put : Option ℕ) → length bytes ≤ most_bytes → Printed (record { whole = true; stop = r.stop; at = r.at }) bytes put now
       unfolding onwards
       printed put short =
           record {

@@ -1,4 +1,6 @@
 // Schedules as text: one command to a line, words and decimal numbers; # begins a comment, and blank lines are fine.
+#![tactic(auto)]
+
 ghost use Rattle.std.specs.Prelude.{◌≡◌};
 ghost use Rattle.script.specs.Assembled.{assembled as Assembled·assembled};
 ghost use Rattle.script.specs.Shown.{shown as Shown·shown};
@@ -7,7 +9,7 @@ pub mod rules;
 
 // Why a line is wrong: an unknown word; a number is missing; more words than the command has; a number that doesn't fit its place; with it the schedule
 // has more than 65,536 bytes, or more than there is room for.
-#[derive(Drop)]
+#[derive(Clone, Copy)]
 pub enum Why {
     UnknownWord,
     NumberMissing,
@@ -18,14 +20,14 @@ pub enum Why {
 }
 
 // What assembling answers: how many bytes were written, or the first line that is wrong and why.
-#[derive(Drop)]
+#[derive(Clone, Copy)]
 pub enum Assembled {
     Done(usize),
     Wrong { line: usize, why: Why },
 }
 
 // Why bytes have no text: no command; operands are missing; a run of no ticks; more than 65,536 bytes; the text is longer than the buffer.
-#[derive(Drop)]
+#[derive(Clone, Copy)]
 pub enum NoText {
     NoCommand,
     MissingOperand,
@@ -35,7 +37,7 @@ pub enum NoText {
 }
 
 // What showing answers: how many characters were written, or the offset of what has no text and why.
-#[derive(Drop)]
+#[derive(Clone, Copy)]
 pub enum Shown {
     Done(usize),
     Refused { at: usize, why: NoText },

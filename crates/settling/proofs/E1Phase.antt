@@ -1,7 +1,7 @@
 -- E. One follower as arithmetic: the three cases that it can be in, and what a tick does to it.
 use mathlib.Core.Path.{◌≡◌}
 use mathlib.Core.Bool.{Bool, true, false}
-use Prim.Native.Nat.{ℕ, suc, ◌+◌, ◌-◌, ◌≤◌, ◌<◌}
+use Prim.Native.Nat.{ℕ, suc, ◌+◌, ◌≤◌, ◌<◌}
 use native.Mathlib.Omega.{arith}
 
 -- One follower, as arithmetic in absolute ticks: whether it trusts L, when its timer ends, `u` its timeout for L less the period,

@@ -96,6 +96,7 @@ module _ (K : Stretch) (p now : ℕ) (ip : In K.n p) (Sp : K.steady p ≡ true) 
 
     link-hit : (ms : List Message) (x : Station) → Due now ms → FairTo K p now K.L ms → Waits K p now w x → Heard K p now w hit (heard_link (by_order K.ranks) p K.L now ms x)
     unfolding heard_link
+    link-hit [] x x5 f h = elim x5 [ ]
     link-hit (m ∷ ms) x (here e) f h =
         link-keeps (by_order K.ranks) (Heard K p now w hit) (λ m. (K.L ≢ p) × Fair K now K.L m.counts) p now K.L (λ m y. hear_again K.L m.counts y K.L-in) ms _ f.1
         (cond_elim (Heard K p now w hit) (eqb m.due now) (λ t. hear_from_L m.counts x (f.0 e) h) (λ t. absurd (eqb-false _ _ t e)))

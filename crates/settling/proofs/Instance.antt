@@ -8,9 +8,8 @@ use lib.Dec.{ltb}
 use lib.ListN.{length, take}
 use borrow.Author.Tests.{ltb-true}
 use Rattle.lists.specs.Largest.{max_to}
-use Rattle.fit.specs.Fit.{alive}
 use Rattle.election.specs.System.{station, sent_by, underway}
-use Rattle.election.specs.Commands.{ruling, refusal}
+use Rattle.election.specs.Commands.{ruling}
 use Rattle.election.specs.Listing.{all_trust}
 use Rattle.election.specs.Rows.{start, at20, started_slow}
 use Rattle.settling.specs.Settling.{moments, befores, divided_ticks, longest_wait, longest_timeout, up_heads, given}

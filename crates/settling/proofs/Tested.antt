@@ -3,7 +3,7 @@ use mathlib.Core.Path.{◌≡◌, sym, ap, ◌∙◌}
 use mathlib.Core.Logic.{◌≢◌}
 use mathlib.Core.List.{List}
 use mathlib.Core.Bool.{Bool, true, false, not, true≢false}
-use Prim.Native.Nat.{ℕ, ◌-◌, ◌<◌, ◌≤◌}
+use Prim.Native.Nat.{ℕ, ◌<◌, ◌≤◌}
 use native.Mathlib.Omega.{arith}
 use lib.Dec.{leb, ltb, eqb}
 use lib.ListN.{length}
@@ -11,7 +11,7 @@ use borrow.Author.Tests.{leb-true, eqb-false, not-true}
 use Rattle.election.specs.Commands.{Command, SetUp, Start, Crash, Link, Run, Lose, Report, Rank}
 use Rattle.election.specs.Schedule.{End, most_bytes, schedule}
 use Rattle.settling.specs.Settling.{First, befores, divided_ticks, Permitted, LosesNone, Sent, Only, NoneLost, NoneCut, NoneSentLate, Arriving, Quiet, bound}
-use Rattle.election.specs.History.{accepted, after, commands, is_up_after}
+use Rattle.election.specs.History.{commands, is_up_after}
 use Rattle.election.specs.System.{station, delay}
 use Rattle.election.specs.Tick.{sending}
 use Rattle.election.specs.declared.System.{System}

@@ -55,7 +55,7 @@ module _ (s : System) (bytes : List ℕ) (t : (command s bytes).refusal ≡ 0) (
   done buffer left l r e g = λ i. record { refusal = sym t i; length = sym size_is i; system = (ap (λ (x : Gone). x.system) (rw e at g) ∙ gone-alone (length buffer)) i }
 
 -- above the most bytes nothing is done
-pub too_long : (bytes : List ℕ) → most_bytes < length bytes → record { refusal = 21; offset = 0; system = fresh } ≡ schedule bytes
+pub too_long : (bytes : List ℕ) → most_bytes < length bytes → schedule bytes ≡ record { refusal = 21; offset = 0; system = fresh }
 unfolding schedule
 too_long bytes h = rw (lt-ltb most_bytes (length bytes) h)
 

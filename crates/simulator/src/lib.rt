@@ -1,5 +1,7 @@
 // The rehearsal desk: a command, and a schedule. Each tests what it is handed. Soundness and the listing are operations of crates
 // of their own.
+#![tactic(auto)]
+
 ghost use Rattle.std.specs.Prelude.{◌≡◌};
 ghost use Rattle.election.specs.Commands.{command, number_of, said};
 ghost use Rattle.election.specs.Schedule.{schedule};
@@ -54,6 +56,7 @@ pub fn command(s: System, bytes: &[u8]) -> Commanded
 }
 
 // Does the commands of a schedule in order, from the fresh system, up to the first refusal.
+#[tactic(auto, using(crate::proofs::Operations::too_long))]
 pub fn schedule(bytes: &[u8]) -> Scheduled
     ensures { saidSchedule result ≡ schedule bytes.now }
 {

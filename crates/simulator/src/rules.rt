@@ -16,7 +16,7 @@ use station::rules::crash;
 use ticks::rules::run;
 
 // Where going on with a schedule stops: before a report that has no room left, at the schedule's end, or before a refused command.
-#[derive(Drop)]
+#[derive(Clone, Copy)]
 pub enum Stop {
     Full,
     End,
@@ -24,7 +24,7 @@ pub enum Stop {
 }
 
 // .. with the offset, how many bytes of listings were written, and the system there.
-#[derive(Drop)]
+#[derive(Clone, Copy)]
 pub struct Onward {
     pub stop: Stop,
     pub at: usize,

@@ -1,5 +1,7 @@
 // Whether a system is sound: every clause of the papers' list, tested, but for the longest delay, which no byte passes. No sum in the
 // tests wraps.
+#![tactic(auto)]
+
 ghost use Rattle.std.specs.Prelude.{◌≡◌, ◌+◌, ◌<◌, ◌≤◌};
 ghost use Rattle.lists.specs.Test.{all_to};
 ghost use Rattle.election.specs.Heads.{ranked_of};

@@ -1,4 +1,6 @@
 // One station, of either kind of head; the rules of one with flash, by the stable-storage leader election, and the order of candidates.
+#![tactic(auto)]
+
 pub mod rules;
 
 // The last tick.
@@ -9,7 +11,7 @@ pub const MOST_RANK: u8 = 7;
 
 // One station. A crash keeps the incarnation (the start count) and the stable leader (the kept
 // leader); the rest is lost, and zero while the station is down. Stations are 1 to n; 0 is none.
-#[derive(Drop)]
+#[derive(Clone, Copy)]
 pub struct Station {
     pub incarnation: u16,
     pub stable: u8,

@@ -1,14 +1,13 @@
 -- Laws of hex text: a line read from left to right, and bytes written one after the other.
 use mathlib.Core.Path.{◌≡◌, refl, sym, ap, ◌∙◌}
 use mathlib.Core.List.{List, [], ◌∷◌, ◌++◌, append_assoc}
-use mathlib.Core.Bool.{true, false, not, ◌&&◌}
+use mathlib.Core.Bool.{true, false, ◌&&◌}
 use Prim.Native.Nat.{ℕ, suc, ◌+◌, ◌*◌, ◌/◌, ◌%◌, ◌<◌, ◌≤◌}
 use native.Mathlib.Numerals.{add-one}
 use native.Mathlib.Omega.{arith}
 use lib.ListN.{length, get_or, set, take, drop, drop_of_length-le}
 use lib.Seq.{drop-cons, take-suc, take-suc-set}
 use lib.Dec.{ltb}
-use borrow.Author.Tests.{not-true, not-false}
 use Rattle.text.specs.Hex.{Spelled, is_blank, digit_of, is_digit, no_hex, with_first, spelled, digit, spaced}
 use Rattle.text.specs.Wrote.{Wrote}
 use Rattle.text.proofs.Parts.{wrote_byte}
@@ -83,13 +82,13 @@ module _ {line buffer : List ℕ} {at size : ℕ} (r : ReadTo line at buffer siz
       two : drop at line ≡ get_or line at 0 ∷ get_or line (at + 1) 0 ∷ drop (at + 2) line
       two = let next : suc (at + 1) ≡ at + 2 = omega arith in rw (first, drop-cons line (at + 1) 0 l, next)
 
-      pub read-other : not (ltb high 16 && ltb low 16) ≡ true → no_hex ≡ spelled line
-      read-other f = no_hex_lem (ap spelled two ∙ spelled-other _ _ _ e (rw (← x, ← y) (not-true (ltb high 16 && ltb low 16) f)))
+      pub read-other : (ltb high 16 && ltb low 16) ≡ false → no_hex ≡ spelled line
+      read-other f = no_hex_lem (ap spelled two ∙ spelled-other _ _ _ e (rw (← x, ← y) f))
 
-      pub read_byte : not (ltb high 16 && ltb low 16) ≡ false → size < length buffer → ReadTo line (at + 2) (set buffer size (16 * high + low)) (size + 1)
+      pub read_byte : (ltb high 16 && ltb low 16) ≡ true → size < length buffer → ReadTo line (at + 2) (set buffer size (16 * high + low)) (size + 1)
       read_byte t room =
           record {
-            is = r.is ∙ ap (with_bytes _) (ap spelled two ∙ spelled-byte _ _ _ e (rw (← x, ← y) (not-false (ltb high 16 && ltb low 16) t)))
+            is = r.is ∙ ap (with_bytes _) (ap spelled two ∙ spelled-byte _ _ _ e (rw (← x, ← y) t))
                 ∙ rw (add-one size, take-suc-set buffer size _ room, x, y) (bytes-then _ _ _);
           }
 

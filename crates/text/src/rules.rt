@@ -79,6 +79,7 @@ pub fn put_last(word: &[u8], x: u64, buffer: &mut [u8]) -> usize
 }
 
 // Writes the count at k, after a comma unless it is the first.
+#[tactic(auto, unfolding(crate::specs::Numbers::count_of))]
 fn put_count(k: usize, x: u16, buffer: &mut [u8]) -> usize
     requires { length (count_of k x) ≤ length buffer.old }
     ensures { Wrote (count_of k x) buffer.old result buffer.new }

@@ -1,18 +1,10 @@
--- Numbers of stations, links and places of messages are in range, and what the code computes of them fits.
+-- Numbers of stations, links and places of messages are in range, and one more of a count fits.
 use mathlib.Core.Path.{◌≡◌}
-use Prim.Native.Nat.{ℕ, ◌+◌, ◌-◌, ◌*◌, ◌<◌, ◌≤◌, min}
+use Prim.Native.Nat.{ℕ, ◌+◌, ◌*◌, ◌<◌, ◌≤◌, min}
 use native.Mathlib.Omega.{arith}
-use mir.Syntax.{w8, w32, w64}
+use mir.Syntax.{w8}
 use mir.Val.{Fits}
 use Rattle.election.specs.System.{places}
-use Rattle.station.specs.Limits.{last_tick}
-
--- the bytes that a station and a message take in memory
-abbrev station_bytes : ℕ
-station_bytes = 80
-
-abbrev message_bytes : ℕ
-message_bytes = 28
 
 -- a station, from 0
 pub record Number (p : ℕ) : Type 0 where
@@ -37,75 +29,24 @@ ends_of n q p a b c = record { from = number_of_lem n q a b; to = number_of_lem 
 pub place_of : (q p i u : ℕ) → Ends q p → i < u → u ≤ places → Place q p i
 place_of q p i u a b c = record { ends = a; low = omega arith }
 
--- a place up to another
-pub place-before : {q p i : ℕ} → Place q p i → (j : ℕ) → j ≤ i → Place q p j
-place-before a j b = record { ends = a.ends; low = omega (arith, a.low) }
-
-module _ {p : ℕ} (a : Number p) where
-  pub number_fits : Fits w8 p
-  number_fits = record { fits = omega (arith, a.low) }
-
-  pub name-fits : Fits w8 (p + 1)
-  name-fits = record { fits = omega (arith, a.low) }
-
-  pub next-number_fits : Fits w64 (p + 1)
-  next-number_fits = record { fits = omega (arith, a.low) }
-
-  pub row_fits : Fits w64 (8 * p)
-  row_fits = record { fits = omega (arith, a.low) }
-
-  pub station-fits : Fits w64 (p * station_bytes)
-  station-fits = record { fits = omega (arith, a.low) }
-
-  pub sent-fits : Fits w64 (p * 4)
-  sent-fits = record { fits = omega (arith, a.low) }
-
 module _ {q p : ℕ} (a : Ends q p) where
   pub link-low : 8 * q + p < 64
   link-low = omega (arith, a.from.low, a.to.low)
-
-  pub link_fits : Fits w64 (8 * q + p)
-  link_fits = record { fits = omega (arith, link-low) }
-
-  pub places-fit : Fits w64 (places * (8 * q + p))
-  places-fit = record { fits = omega (arith, link-low) }
 
 module _ {q p i : ℕ} (a : Place q p i) where
   pub place-low : places * (8 * q + p) + i < 64 * places
   place-low = omega (arith, link-low a.ends, a.low)
 
-  pub place-fits : Fits w64 (places * (8 * q + p) + i)
-  place-fits = record { fits = omega (arith, place-low) }
-
-  pub message-fits : Fits w64 ((places * (8 * q + p) + i) * message_bytes)
-  message-fits = record { fits = omega (arith, place-low) }
-
-  pub next-place_fits : Fits w64 (i + 1)
-  next-place_fits = record { fits = omega (arith, a.low) }
-
--- a loop's number goes on, and what is left of its way gets less
+-- a loop's number goes on
 pub next_low : (i n : ℕ) → i < n → i + 1 ≤ n
 next_low i n h = omega arith
-
-pub left-falls : (i n : ℕ) → i < n → n - (i + 1) < n - i
-left-falls i n h = omega arith
 
 pub all_done : (i n : ℕ) → i ≤ n → n ≤ i → i ≡ n
 all_done i n a b = omega arith
 
--- a tick and its successor
-pub tick-fits : (t end : ℕ) → t < end → end ≤ last_tick → Fits w32 (t + 1)
-tick-fits t end a b = record { fits = omega arith }
-
 -- one message more fits where a place is free
 pub used_more_fits : (u v : ℕ) → u ≡ v → u < places → Fits w8 (v + 1)
 used_more_fits u v e h = record { fits = omega arith }
-
-pub none-low : (n : ℕ) → 0 ≤ n
-none-low n = omega arith
-
-pub row_start : (p : ℕ) → 8 * p + 0 ≡ 8 * p
-row_start p = omega arith
 
 -- a bound that is set anew, and a count that goes on or not
 pub at_least : (a b c : ℕ) → b ≡ c → a ≤ c → a ≤ b

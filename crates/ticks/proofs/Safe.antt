@@ -11,11 +11,11 @@ use Rattle.station.specs.Limits.{last_tick, longest}
 use Rattle.station.specs.Order.{entry}
 use Rattle.station.specs.Rules.{other}
 use Rattle.station.specs.declared.Station.{Station}
-use Rattle.fit.specs.Fit.{ranges, kept_in, counts_in, timeouts_in, vectorless, clockless, cleared, fit}
+use Rattle.fit.specs.Fit.{ranges, kept_in, counts_in, timeouts_in, vectorless, clockless, cleared}
 use Rattle.fit.proofs.Handed.{slotting-of}
 use Rattle.fit.proofs.Safe.{expire_safe}
 use Rattle.fit.proofs.Tests.{Timeouts, timeouts-of, flash-fields, fit_of, fit-down}
-use Rattle.clock.specs.Fit.{fit as clockFit, kept_in as clockKeptIn}
+use Rattle.clock.specs.Fit.{kept_in as clockKeptIn}
 use Rattle.clock.proofs.Keeps.{during_timeout, during_leader}
 use Rattle.clock.proofs.Safe.{slot_safe}
 use Rattle.clock.proofs.Tests.{fit_of as clock-fit-of, fit-ranges as clock-fit-ranges, fit-down as clock-fit-down}

@@ -14,7 +14,7 @@ use Rattle.lists.specs.Filter.{where_to}
 use Rattle.lists.proofs.Entries.{over-snoc}
 use lib.Seq.{take-suc}
 use Rattle.station.specs.declared.Station.{Station}
-use Rattle.election.specs.System.{no_message, unused, messages, holding, places}
+use Rattle.election.specs.System.{no_message, unused, holding, places}
 use Rattle.election.specs.Tick.{heard_link, later}
 use Rattle.election.specs.declared.Message.{Message}
 

@@ -1,4 +1,6 @@
 // Runs of a sound system: rules for the crates above, which test soundness first.
+#![tactic(auto)]
+
 mod due;
 pub mod rules;
 mod steps;

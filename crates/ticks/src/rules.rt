@@ -17,7 +17,7 @@ use layout::rules::unused;
 use station::LAST_TICK;
 
 // What a run leaves: the system, and a tick up to which each tick only raises the counter.
-#[derive(Drop)]
+#[derive(Clone, Copy)]
 pub struct Ran {
     pub system: Layout,
     pub quiet: u32,

@@ -1,19 +1,19 @@
 -- What a line of arguments asks for, case by case.
-use mathlib.Core.Path.{◌≡◌, refl, sym, ap, ◌∙◌}
+use mathlib.Core.Path.{◌≡◌}
 use mathlib.Core.List.{List, [], ◌∷◌}
-use mathlib.Core.Bool.{Bool, true, false, cond, ◌&&◌, and-false}
+use mathlib.Core.Bool.{Bool, true, false, and-false}
 use Prim.Native.Nat.{ℕ, ◌+◌, ◌<◌, ◌≤◌}
 use native.Mathlib.Omega.{arith}
 use lib.Dec.{leb, ltb}
 use lib.ListN.{length, get_or, take}
 use lib.Seq.{length-take-le}
-use borrow.Author.Tests.{lt-ltb, le-ltb, lt-leb, le-leb}
+use borrow.Author.Tests.{lt-ltb, le-ltb, lt-leb}
 use Rattle.fit.specs.Fit.{within}
 use Rattle.fit.proofs.Tests.{of_within}
-use Rattle.text.specs.Hex.{Spelled, spelled}
+use Rattle.text.specs.Hex.{spelled}
 use Rattle.election.specs.Commands.{decode, operands, last_command}
 use Rattle.decision.proofs.Bytes.{width_of}
-use Rattle.tryout.specs.Asked.{Asking, TryOut, NoBytes, LeftOver, NoHex, is_left_over, asking}
+use Rattle.tryout.specs.Asked.{TryOut, NoBytes, LeftOver, NoHex, is_left_over, asking}
 
 -- bytes behind a command: there are none, it is known, or it is no command
 pub over_none : (bytes : List ℕ) → length bytes ≡ 0 → false ≡ is_left_over bytes

@@ -1,21 +1,18 @@
 -- How long what is said can be.
 use mathlib.Core.Path.{◌≡◌}
-use mathlib.Core.List.{List, ◌++◌}
+use mathlib.Core.List.{List}
 use mathlib.Core.Bool.{true}
 use Prim.Native.Nat.{ℕ, ◌+◌, ◌≤◌, min}
 use native.Mathlib.Omega.{arith}
 use lib.Dec.{eqb}
-use lib.ListN.{length, take, length-append, length-take}
+use lib.ListN.{length, length-append, length-take}
 use borrow.Author.Tests.{eqb-true}
 use Rattle.lists.proofs.Bools.{cond_elim}
-use Rattle.text.specs.Hex.{spaced}
-use Rattle.text.specs.Numbers.{newline, pair}
 use Rattle.text.specs.Quoted.{text}
 use Rattle.text.proofs.Digits.{length-decimal}
 use Rattle.text.proofs.HexText.{length-spaced}
 use Rattle.text.proofs.Room.{either}
 use Rattle.election.specs.Commands.{Command, SetUp, Start, Crash, Link, Run, Lose, Report, Rank, decode, operands, command}
-use Rattle.election.specs.Listing.{listing}
 use Rattle.election.specs.Schedule.{schedule}
 use Rattle.election.specs.Sound.{sound}
 use Rattle.election.specs.declared.System.{System}
@@ -23,10 +20,8 @@ use Rattle.election.proofs.Followed.{accepted-schedule}
 use Rattle.election.proofs.KeepsSound.{keeps_sound}
 use Rattle.election.proofs.Soundness.{sound-of}
 use Rattle.listing.proofs.Room.{listing-room}
-use Rattle.words.specs.Doings.{doing}
-use Rattle.words.specs.Reasons.{reason, refused}
 use Rattle.words.proofs.Room.{reason-room, refused-room, doing-room}
-use Rattle.tryout.specs.Told.{no_table, table, before, after, first, heading, would, answered, command_line, told, because, turned_down, said, longest_said}
+use Rattle.tryout.specs.Told.{table, before, after, first, heading, would, answered, command_line, told, because, turned_down, said, longest_said}
 
 table-room : (s : System) → sound s ≡ true → length (table s) ≤ 2700
 unfolding text table

@@ -1,6 +1,6 @@
 -- What a try-out tells, from what the operations answered.
 use mathlib.Core.Path.{◌≡◌, refl, sym, ap, ◌∙◌}
-use mathlib.Core.List.{List, [], ◌∷◌, ◌++◌}
+use mathlib.Core.List.{List, [], ◌++◌}
 use mathlib.Core.Bool.{Bool, true, false, cond}
 use Prim.Native.Nat.{ℕ, ◌+◌, ◌<◌, ◌≤◌}
 use native.Mathlib.Decide.{dec_le}
@@ -21,7 +21,7 @@ use Rattle.election.specs.declared.Refusal.{Refusal}
 use Rattle.election.specs.declared.Scheduled.{Scheduled}
 use Rattle.election.specs.declared.System.{System}
 use Rattle.election.proofs.Followed.{rules_refusal, accepted-schedule}
-use Rattle.decision.specs.Decided.{Taken, decided, meaning}
+use Rattle.decision.specs.Decided.{decided, meaning}
 use Rattle.decision.specs.declared.Decision.{Decision}
 use Rattle.decision.proofs.Decisions.{numbered}
 use Rattle.dryrun.specs.DryRun.{Tried, tried, said, refusal_of}

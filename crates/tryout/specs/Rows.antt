@@ -1,5 +1,5 @@
 -- What is said, computed: an accepted command, a refused one, set up where nothing is set up, and a schedule that is refused.
-use Rattle.std.specs.Prelude.{◌≡◌, List, [], ◌∷◌, ◌++◌, ℕ}
+use Rattle.std.specs.Prelude.{◌≡◌, List, [], ◌++◌, ℕ}
 use Rattle.text.specs.Quoted.{text}
 use Rattle.election.specs.Rows.{set_up, start, crash, report}
 use Rattle.tryout.specs.Told.{said}

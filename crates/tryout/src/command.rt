@@ -6,7 +6,7 @@ use decision::widths::width;
 use text::rules::hex::read_hex;
 
 // What the arguments ask for: a command, of so many bytes; or there are no bytes, or some are left over behind the command, or it is no hex.
-#[derive(Drop)]
+#[derive(Clone, Copy)]
 pub enum Asked {
     Command(usize),
     NoBytes,

@@ -164,7 +164,7 @@ fn put_turned_down(why: Refusal, offset: usize, buffer: &mut [u8]) -> usize
 }
 
 // What was written: whether the schedule is accepted, and how long it is.
-#[derive(Drop)]
+#[derive(Clone, Copy)]
 pub struct Said {
     pub accepted: bool,
     pub size: usize,

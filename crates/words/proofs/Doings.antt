@@ -5,7 +5,7 @@ use Prim.Native.Nat.{ℕ}
 use native.Mathlib.Omega.{arith}
 use Rattle.election.specs.Commands.{Command, SetUp, Start, Crash, Link, Run, Lose, Report, Rank, none_started}
 use Rattle.election.specs.declared.System.{System}
-use Rattle.decision.specs.Decided.{Decided, Turned, Taken, meaning}
+use Rattle.decision.specs.Decided.{Turned, Taken, meaning}
 use Rattle.decision.specs.declared.Decision.{Decision}
 use Rattle.decision.specs.declared.Decision.TheVariants as code
 use Rattle.words.specs.Doings.{doing, doing_of}

@@ -1,2 +1,4 @@
 // Commands and refusals in words.
+#![tactic(auto)]
+
 pub mod rules;

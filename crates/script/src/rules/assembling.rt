@@ -11,7 +11,7 @@ use crate::rules::words::{Part, end_of};
 use crate::{Assembled, Why};
 
 // The line at a place, and where the next one begins.
-#[derive(Drop)]
+#[derive(Clone, Copy)]
 pub struct Turn {
     pub line: Line,
     pub next: usize,
@@ -34,7 +34,7 @@ pub fn line_at(text: &[u8], at: usize) -> Turn
 }
 
 // A line behind others: how many bytes there are with it, or what is wrong.
-#[derive(Drop)]
+#[derive(Clone, Copy)]
 pub enum Step {
     Size(usize),
     Wrong(Why),

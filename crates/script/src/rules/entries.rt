@@ -4,7 +4,7 @@ ghost use Rattle.script.specs.Entries.{entries};
 ghost use Rattle.script.specs.Tabled.{Tabled};
 
 // A command as it is written: its words, at the front of `name`; how many numbers stand behind them, and in which range; and its byte.
-#[derive(Drop)]
+#[derive(Clone, Copy)]
 pub struct Entry {
     pub name: [u8; 13],
     pub size: usize,

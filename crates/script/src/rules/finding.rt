@@ -22,7 +22,7 @@ pub fn same(a: &[u8], b: &[u8]) -> bool
 }
 
 // Whether a text begins with the words of a name, and the place behind them.
-#[derive(Drop)]
+#[derive(Clone, Copy)]
 pub struct Begun {
     pub found: bool,
     pub at: usize,
@@ -62,7 +62,7 @@ fn begin_with(name: &[u8], text: &[u8]) -> Begun
 }
 
 // The entry that a text begins with, the number of entries for none, and the place behind its words.
-#[derive(Drop)]
+#[derive(Clone, Copy)]
 pub struct Found {
     pub entry: usize,
     pub at: usize,

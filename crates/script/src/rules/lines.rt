@@ -18,7 +18,7 @@ use decision::widths::width;
 use text::rules::put;
 
 // A line: no command; a command, its byte and three operands, of which it has the first ones; a run of so many ticks; or wrong.
-#[derive(Drop)]
+#[derive(Clone, Copy)]
 pub enum Line {
     Nothing,
     Command(u8, u8, u8, u8),

@@ -10,14 +10,14 @@ use crate::Why;
 use crate::rules::words::word_at;
 
 // The numbers behind a command's words, 0 for those that it doesn't have; or what is wrong.
-#[derive(Drop)]
+#[derive(Clone, Copy)]
 pub enum Numbers {
     Three(u32, u32, u32),
     Wrong(Why),
 }
 
 // What a word spells: a number, 1,000,001 for any that is larger; or no number.
-#[derive(Drop)]
+#[derive(Clone, Copy)]
 pub enum Value {
     Number(u32),
     NotNumber,
@@ -71,7 +71,7 @@ fn shifted(v: u32, others: Numbers) -> Numbers
 }
 
 // The first of some numbers, and the place behind it; or what is wrong with it.
-#[derive(Drop)]
+#[derive(Clone, Copy)]
 pub enum First {
     Number(u32, usize),
     Wrong(Why),

@@ -10,7 +10,7 @@ use crate::{NoText, Shown};
 use decision::widths::width;
 
 // What is found at a command: how many bytes it has and how many characters its line, or why there is none.
-#[derive(Drop)]
+#[derive(Clone, Copy)]
 pub enum Found {
     Line { width: usize, size: usize },
     Stop(NoText),

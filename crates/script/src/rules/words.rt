@@ -6,7 +6,7 @@ ghost use Rattle.script.specs.Split.{inside, lead};
 use text::rules::hex::is_blank;
 
 // The parts of a text: the blanks before a word, a word, what stands before a comment, a line.
-#[derive(Drop)]
+#[derive(Clone, Copy)]
 pub enum Part {
     Blanks,
     Word,
@@ -42,7 +42,7 @@ pub fn end_of(part: Part, text: &[u8], from: usize) -> usize
 }
 
 // A word: where it begins and where it ends; the same place where there is none.
-#[derive(Drop)]
+#[derive(Clone, Copy)]
 pub struct Span {
     pub start: usize,
     pub end: usize,

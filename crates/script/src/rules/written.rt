@@ -10,7 +10,7 @@ use crate::rules::entries::entry_at;
 use text::rules::{put, put_named};
 
 // The entry by which a command is written, and three numbers: the first of them, as many as the entry has, are those of the command.
-#[derive(Drop)]
+#[derive(Clone, Copy)]
 pub struct Phrase {
     pub entry: usize,
     pub numbers: [u64; 3],

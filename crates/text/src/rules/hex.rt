@@ -27,7 +27,7 @@ pub fn digit_of(c: u8) -> u8
 }
 
 // What a line spells: whether it is hex, and how many bytes there are, none where it is not.
-#[derive(Drop)]
+#[derive(Clone, Copy)]
 pub struct Spelling {
     pub hex: bool,
     pub size: usize,

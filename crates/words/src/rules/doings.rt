@@ -7,6 +7,7 @@ use decision::Decision;
 use text::rules::{put, put_named, put_pair};
 
 // Writes what set up does.
+#[tactic(auto, unfolding(crate::specs::Doings::setting_up, text::specs::Quoted::text))]
 fn put_set_up(clock: bool, n: u8, period: u8, buffer: &mut [u8]) -> usize
     requires { length (setting_up clock n period) ≤ length buffer.old }
     ensures { Wrote (setting_up clock n period) buffer.old result buffer.new }
@@ -30,6 +31,7 @@ fn put_set_up(clock: bool, n: u8, period: u8, buffer: &mut [u8]) -> usize
 }
 
 // Writes what a link setting does.
+#[tactic(auto, unfolding(crate::specs::Doings::linking, text::specs::Quoted::text))]
 fn put_link(p: u8, q: u8, d: u8, buffer: &mut [u8]) -> usize
     requires { length (linking p q d) ≤ length buffer.old }
     ensures { Wrote (linking p q d) buffer.old result buffer.new }
@@ -42,6 +44,7 @@ fn put_link(p: u8, q: u8, d: u8, buffer: &mut [u8]) -> usize
 }
 
 // Writes what a command that was decided on does; of one that is turned down, nothing.
+#[tactic(auto, unfolding(crate::specs::Doings::doing, text::specs::Quoted::text))]
 pub fn put_doing(d: Decision, buffer: &mut [u8]) -> usize
     requires { length (doing_of d) ≤ length buffer.old }
     ensures { Wrote (doing_of d) buffer.old result buffer.new }

@@ -9,6 +9,7 @@ use listing::rules::ending::number_of;
 use text::rules::{put, put_named};
 
 // Writes the reason of a refusal.
+#[tactic(auto, unfolding(crate::specs::Reasons::reason, text::specs::Quoted::text))]
 pub fn put_reason(why: Refusal, buffer: &mut [u8]) -> usize
     requires { length (reason (number_of why)) ≤ length buffer.old }
     ensures { Wrote (reason (number_of why)) buffer.old result buffer.new }

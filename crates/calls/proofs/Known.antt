@@ -1,0 +1,30 @@
+-- What is made of what was read of an input is what is made of the whole input.
+use Rattle.std.proofs.Common.{◌≡◌, refl, sym, ap, subst, ◌∙◌, List, [], ◌++◌, ℕ, ◌<◌, ◌≤◌, Option, Some, None, IfSome, length, take, length-append, arith}
+use Rattle.std.proofs.lemmas.List.{take-append-le, take-take}
+use Rattle.std.specs.Io.KnownBytes.{Appends, Consumes, IsAtEnd}
+use native.Mathlib.Decide.{dec_lt}
+use lib.Seq.{length-take-le}
+use Rattle.calls.specs.Calls.{EnoughFor}
+
+pub enough_known : {made : List ℕ → List ℕ} {most : ℕ} → EnoughFor made most → (before left : Option (List ℕ)) (space : List ℕ) (size : ℕ) → size ≤ length space → most < length space
+    → (size < length space → IsAtEnd left) → Consumes before left (take size space) → IfSome before (λ given. made (take size space) ≡ made given)
+enough_known e None left space size inside more end read = tt
+enough_known e (Some given) None space size inside more end read = absurd read
+enough_known {made} {most} e (Some given) (Some rest) space size inside more end read = which (dec_lt size (length space))
+  where
+    long : length (take size space) ≡ size
+    long = length-take-le size space inside
+
+    same : take size given ≡ take size space
+    same = ap (λ (l : List ℕ). take size l) read ∙ take-append-le size (take size space) rest (omega (arith, long)) ∙ take-take size size space (omega arith)
+
+    which : Dec (size < length space) → made (take size space) ≡ made given
+    which (yes l) =
+        let none : rest ≡ [] = end l in
+        ap made (sym same) ∙ e given (Some 0) size (length space) more (λ _. refl) (λ _. omega (arith, ap length read, length-append (take size space) rest, ap length none, long))
+    which (no l) = ap made (sym same) ∙ e given None size (length space) more (λ h. absurd (l h)) (λ z. let w : ◌≡◌ {A = ℕ} 0 1 = cc in absurd (omega arith))
+
+pub known_taken : (made : List ℕ → List ℕ) (before old new : Option (List ℕ)) (read : List ℕ) (done : ℕ) → IfSome before (λ given. made read ≡ made given)
+    → Appends old new (take done (made read)) → IfSome before (λ given. Appends old new (take done (made given)))
+known_taken made None old new read done same a = tt
+known_taken made (Some given) old new read done same a = subst (λ l. Appends old new (take done l)) same a
