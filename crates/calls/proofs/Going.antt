@@ -3,7 +3,7 @@ use Rattle.std.proofs.Common.{◌≡◌, List, [], ℕ, ◌-◌, ℤ, Option, ta
 use Rattle.std.proofs.KnownBytes.{Appends-nil, Keeps-refl}
 use Rattle.std.specs.Io.KnownBytes.{Appends}
 use Rattle.calls.specs.Streams.{descriptor_of, Goes}
-use Rattle.calls.specs.declared.streams.Stream.TheVariants.{Output, Error}
+use Rattle.calls.specs.declared.rules.streams.Stream.TheVariants.{Output, Error}
 
 pub goes_output : (out out' err : Option (List ℕ)) (bytes : List ℕ) → Appends out out' bytes → Goes (descriptor_of Output) out out' err err bytes
 goes_output out out' err bytes a =

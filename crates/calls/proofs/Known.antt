@@ -1,5 +1,5 @@
 -- What is made of what was read of an input is what is made of the whole input.
-use Rattle.std.proofs.Common.{◌≡◌, refl, sym, ap, subst, ◌∙◌, List, [], ◌++◌, ℕ, ◌<◌, ◌≤◌, Option, Some, None, IfSome, length, take, length-append, arith}
+use Rattle.std.proofs.Common.{◌≡◌, refl, sym, ap, subst, ◌∙◌, List, [], ℕ, ◌<◌, ◌≤◌, Option, Some, None, IfSome, length, take, length-append, arith}
 use Rattle.std.proofs.lemmas.List.{take-append-le, take-take}
 use Rattle.std.specs.Io.KnownBytes.{Appends, Consumes, IsAtEnd}
 use native.Mathlib.Decide.{dec_lt}

@@ -37,6 +37,7 @@ abbrev pub Taken : Bool → Option ℕ → ℕ → ℕ → Type 0
 Taken true put done all = done ≡ all
 Taken false put done all = (moved put ≡ 0) × (done < all)
 
--- known bytes grow by a front of a text
-abbrev pub AppendsFront : Option (List ℕ) → Option (List ℕ) → List ℕ → Type 0
-AppendsFront old new text = (n : ℕ) × Appends old new (take n text)
+-- known bytes grow by a message, or by less than all of it
+abbrev pub MessageTaken : Bool → Option (List ℕ) → Option (List ℕ) → List ℕ → Type 0
+MessageTaken true old new message = Appends old new message
+MessageTaken false old new message = (n : ℕ) × (n < length message) × Appends old new (take n message)

@@ -1,9 +1,11 @@
 // Reading an input whole, and writing a text whole, in as many calls as it takes.
 ghost use Rattle.std.specs.Prelude.{◌≡◌, ◌+◌, ◌-◌, ◌<◌, ◌≤◌, ◌^◌, drop, length, take, Some, IsTrue};
 ghost use Rattle.std.specs.Io.KnownBytes.{Appends, Consumes, IsAtEnd};
-ghost use Rattle.calls.specs.Calls.{AppendsFront, Moved, moved, Reading, Taken};
+ghost use Rattle.calls.specs.Calls.{MessageTaken, Moved, moved, Reading, Taken};
 
 use std::io::{Read, Write};
+
+pub mod streams;
 
 // One read, to behind the bytes that are in the buffer: keeps what the reader answered, and counts the bytes that came.
 fn read_next<R: Read>(reader: &mut R, buffer: &mut [u8], size: &mut usize, got: &mut Option<usize>)
@@ -87,11 +89,11 @@ pub fn write_text<W: Write>(
     true
 }
 
-// Writes a message that nothing rests on: what a write doesn't take of it is lost.
-pub fn write_message<W: Write>(writer: &mut W, message: &[u8])
-    ensures { AppendsFront (W.contents writer.old) (W.contents writer.new) message.now }
+// Writes a message that nothing rests on, in as many writes as it takes; answers whether all of it was taken. What a write doesn't take is lost.
+pub fn write_message<W: Write>(writer: &mut W, message: &[u8]) -> bool
+    ensures { MessageTaken result (W.contents writer.old) (W.contents writer.new) message.now }
 {
     let mut done = 0;
     let mut put = None;
-    write_text(writer, message, &mut done, &mut put);
+    write_text(writer, message, &mut done, &mut put)
 }

@@ -151,8 +151,12 @@ fn run_or_complain(rt: &HostRuntime, mode: Mode) {
     let ran = run_in(rt, mode);
     match ran {
         Ran::Said => {}
-        Ran::NotRead => write_message(&mut rt.stderr(), b"desk: reading standard input failed\n"),
-        Ran::NotWritten => write_message(&mut rt.stderr(), b"desk: writing failed\n"),
+        Ran::NotRead => {
+            write_message(&mut rt.stderr(), b"desk: reading standard input failed\n");
+        }
+        Ran::NotWritten => {
+            write_message(&mut rt.stderr(), b"desk: writing failed\n");
+        }
     }
 }
 

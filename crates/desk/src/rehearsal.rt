@@ -11,8 +11,8 @@ ghost use Rattle.desk.specs.declared.asked.Mode.TheVariants as modes;
 use crate::asked::Mode;
 use crate::said::{Prepared, prepare, say};
 use crate::wording::put_ending;
+use calls::rules::streams::Stream;
 use calls::rules::write_text;
-use calls::streams::Stream;
 use printing::rules::print_listings;
 use std::io::Write;
 

@@ -8,7 +8,7 @@ ghost use Rattle.desk.specs.declared.asked.Mode.TheVariants as modes;
 
 use crate::asked::Mode;
 use crate::wording::{put_long_text, put_no_text, put_wrong_line};
-use calls::streams::{Stream, write_to};
+use calls::rules::streams::{Stream, write_to};
 use script::{Assembled, Shown, assemble, show};
 use std::io::Write;
 

@@ -9,7 +9,7 @@ use crate::asked::Mode;
 use crate::figure::put_figure;
 use crate::said::{Prepared, prepare, say};
 use crate::wording::put_complaint;
-use calls::streams::Stream;
+use calls::rules::streams::Stream;
 use election::Ended;
 use figures::rules::{bound_ticks, figures};
 use std::io::Write;

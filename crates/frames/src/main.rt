@@ -126,11 +126,17 @@ fn main(rt: HostRuntime) {
     );
     match ran {
         Ran::Printed => {}
-        Ran::NotRead => write_message(&mut rt.stderr(), b"frames: reading standard input failed\n"),
-        Ran::NotPrinted => write_message(
-            &mut rt.stderr(),
-            b"frames: writing to standard output failed\n",
-        ),
-        Ran::TooLong => write_message(&mut rt.stderr(), b"frames: the input is too long\n"),
+        Ran::NotRead => {
+            write_message(&mut rt.stderr(), b"frames: reading standard input failed\n");
+        }
+        Ran::NotPrinted => {
+            write_message(
+                &mut rt.stderr(),
+                b"frames: writing to standard output failed\n",
+            );
+        }
+        Ran::TooLong => {
+            write_message(&mut rt.stderr(), b"frames: the input is too long\n");
+        }
     }
 }

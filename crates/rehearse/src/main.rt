@@ -71,13 +71,17 @@ fn main(rt: HostRuntime) {
     );
     match ran {
         Ran::Printed => {}
-        Ran::NotRead => write_message(
-            &mut rt.stderr(),
-            b"rehearse: reading standard input failed\n",
-        ),
-        Ran::NotPrinted => write_message(
-            &mut rt.stderr(),
-            b"rehearse: writing to standard output failed\n",
-        ),
+        Ran::NotRead => {
+            write_message(
+                &mut rt.stderr(),
+                b"rehearse: reading standard input failed\n",
+            );
+        }
+        Ran::NotPrinted => {
+            write_message(
+                &mut rt.stderr(),
+                b"rehearse: writing to standard output failed\n",
+            );
+        }
     }
 }

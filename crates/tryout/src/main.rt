@@ -13,8 +13,8 @@ ghost use Rattle.tryout.specs.declared.Ran.TheVariants.{NotRead};
 use crate::command::{Asked, read_command};
 use crate::told::put_said;
 use arguments::gather;
+use calls::rules::streams::{Stream, write_to};
 use calls::rules::{read_whole, write_message};
-use calls::streams::{Stream, write_to};
 use std::io::{Read, Write};
 
 mod command;
@@ -134,8 +134,12 @@ fn try_out(rt: &HostRuntime, bytes: &[u8]) {
     match ran {
         Ran::Told => {}
         Ran::TurnedDown => {}
-        Ran::NotRead => write_message(&mut rt.stderr(), b"tryout: reading standard input failed\n"),
-        Ran::NotWritten => write_message(&mut rt.stderr(), b"tryout: writing failed\n"),
+        Ran::NotRead => {
+            write_message(&mut rt.stderr(), b"tryout: reading standard input failed\n");
+        }
+        Ran::NotWritten => {
+            write_message(&mut rt.stderr(), b"tryout: writing failed\n");
+        }
     }
 }
 
