@@ -1,4 +1,4 @@
--- The flight limit of fitHear, tied to the links: how far apart two messages of one link can be sent that are due in one tick.
+-- The flight limit of fit_hear, tied to the links: how far apart two messages of one link can be sent that are due in one tick.
 use Rattle.std.specs.Prelude.{◌≡◌, ◌≢◌, List, ◌∷◌, ◌++◌, Bool, true, ℕ, ◌+◌, ◌≤◌}
 use Rattle.fit.specs.Fit.{flight}
 use Rattle.handing.specs.Handed.{Full}

@@ -1,4 +1,4 @@
-// The listings of a schedule on standard output, and where the schedule stopped.
+// The listings of a schedule on a writer, and where the schedule stopped.
 #![tactic(auto)]
 
 pub mod rules;

@@ -1,4 +1,4 @@
-// Writing a text to standard output or to standard error.
+// Writing a text to one of two writers: in a program its standard output and its standard error.
 ghost use Rattle.std.specs.Prelude.{◌+◌, ◌-◌, ◌<◌, ◌≤◌, ◌^◌, length, take};
 ghost use Rattle.calls.specs.Calls.{Taken};
 ghost use Rattle.calls.specs.Streams.{descriptor_of, Goes};
