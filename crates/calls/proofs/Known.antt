@@ -4,25 +4,31 @@ use Rattle.std.proofs.lemmas.List.{take-append-le, take-take}
 use Rattle.std.specs.Io.KnownBytes.{Appends, Consumes, IsAtEnd}
 use native.Mathlib.Decide.{dec_lt}
 use lib.Seq.{length-take-le}
-use Rattle.calls.specs.Calls.{EnoughFor}
+use Rattle.calls.specs.Calls.{EnoughFor, Whole}
 
-pub enough_known : {made : List ℕ → List ℕ} {most : ℕ} → EnoughFor made most → (before left : Option (List ℕ)) (space : List ℕ) (size : ℕ) → size ≤ length space → most < length space
-    → (size < length space → IsAtEnd left) → Consumes before left (take size space) → IfSome before (λ given. made (take size space) ≡ made given)
-enough_known e None left space size inside more end read = tt
-enough_known e (Some given) None space size inside more end read = absurd read
-enough_known {made} {most} e (Some given) (Some rest) space size inside more end read = which (dec_lt size (length space))
+-- what was read is a front of the input, and enough of it: the buffer is full, or the last read found the end
+pub read_enough : (before left : Option (List ℕ)) (space : List ℕ) (size : ℕ) → size ≤ length space → (size < length space → IsAtEnd left) → Consumes before left (take size space)
+    → IfSome before (λ given. (take size given ≡ take size space) × ((got : Option ℕ) × Whole got size (length space) × (got ≡ Some 0 → length given ≤ size)))
+read_enough None left space size inside end read = tt
+read_enough (Some given) None space size inside end read = absurd read
+read_enough (Some given) (Some rest) space size inside end read =
+    (ap (λ (l : List ℕ). take size l) read ∙ take-append-le size (take size space) rest (omega (arith, long)) ∙ take-take size size space (omega arith), which (dec_lt size (length space)))
   where
     long : length (take size space) ≡ size
     long = length-take-le size space inside
 
-    same : take size given ≡ take size space
-    same = ap (λ (l : List ℕ). take size l) read ∙ take-append-le size (take size space) rest (omega (arith, long)) ∙ take-take size size space (omega arith)
-
-    which : Dec (size < length space) → made (take size space) ≡ made given
+    which : Dec (size < length space) → (got : Option ℕ) × Whole got size (length space) × (got ≡ Some 0 → length given ≤ size)
     which (yes l) =
         let none : rest ≡ [] = end l in
-        ap made (sym same) ∙ e given (Some 0) size (length space) more (λ _. refl) (λ _. omega (arith, ap length read, length-append (take size space) rest, ap length none, long))
-    which (no l) = ap made (sym same) ∙ e given None size (length space) more (λ h. absurd (l h)) (λ z. let w : ◌≡◌ {A = ℕ} 0 1 = cc in absurd (omega arith))
+        (Some 0, (λ _. refl), (λ _. omega (arith, ap length read, length-append (take size space) rest, ap length none, long)))
+    which (no l) = (None, (λ h. absurd (l h)), (λ z. let w : ◌≡◌ {A = ℕ} 0 1 = cc in absurd (omega arith)))
+
+pub enough_known : {made : List ℕ → List ℕ} {most : ℕ} → EnoughFor made most → (before left : Option (List ℕ)) (space : List ℕ) (size : ℕ) → size ≤ length space → most < length space
+    → (size < length space → IsAtEnd left) → Consumes before left (take size space) → IfSome before (λ given. made (take size space) ≡ made given)
+enough_known e None left space size inside more end read = tt
+enough_known {made} e (Some given) left space size inside more end read =
+    let enough = read_enough (Some given) left space size inside end read in
+    ap made (sym enough.0) ∙ e given enough.1.0 size (length space) more enough.1.1 enough.1.2
 
 pub known_taken : (made : List ℕ → List ℕ) (before old new : Option (List ℕ)) (read : List ℕ) (done : ℕ) → IfSome before (λ given. made read ≡ made given)
     → Appends old new (take done (made read)) → IfSome before (λ given. Appends old new (take done (made given)))
