@@ -1,17 +1,10 @@
 // The program's arguments, on one line.
 #![tactic(auto)]
 
-ghost use Rattle.std.specs.Prelude.{◌≤◌, length};
+ghost use Rattle.std.specs.Prelude.{◌≤◌, length, IfSome};
 ghost use Rattle.std.specs.Io.{WritesAtMost};
 
 use std::env::{Env, FillError};
-
-// The arguments on a line: whether there was room for all of them, and how long the line is.
-#[derive(Clone, Copy)]
-pub struct Gathered {
-    pub whole: bool,
-    pub size: usize,
-}
 
 // Puts argument k at the front of a line, and a blank after it; answers how long both are.
 fn put_argument<R: Env>(rt: &R, k: usize, line: &mut [u8]) -> Result<usize, FillError>
@@ -25,26 +18,18 @@ fn put_argument<R: Env>(rt: &R, k: usize, line: &mut [u8]) -> Result<usize, Fill
     Ok(size + 1)
 }
 
-// Puts the arguments on a line, a blank after each.
-pub fn gather<R: Env>(rt: &R, line: &mut [u8]) -> Gathered
-    ensures { result.size ≤ length line.new }
+// Puts the arguments on a line, a blank after each; answers how long the line is, or `None` where there is no room for all of them.
+pub fn gather<R: Env>(rt: &R, line: &mut [u8]) -> Option<usize>
+    ensures { IfSome result (λ size. size ≤ length line.new) }
 {
     let mut at = 0;
-    // the first that is missing ends them; each has a byte at least, its blank, so the line has room for few
+    // (d) the environment hands them out by number; the first that is missing ends them; each has a byte at least, its blank, so the line has room for few
     for k in 1..usize::MAX {
         match put_argument(rt, k, &mut line[at..]) {
             Ok(size) => at += size,
             Err(FillError::NotPresent) => break,
-            Err(FillError::TooLong) => {
-                return Gathered {
-                    whole: false,
-                    size: 0,
-                };
-            }
+            Err(FillError::TooLong) => return None,
         }
     }
-    Gathered {
-        whole: true,
-        size: at,
-    }
+    Some(at)
 }

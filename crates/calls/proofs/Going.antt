@@ -1,9 +1,9 @@
 -- Laws of what went to standard output and to standard error.
-use Rattle.std.proofs.Common.{◌≡◌, List, [], ℕ, ◌-◌, ℤ, Option, take, subst, arith}
-use Rattle.std.proofs.KnownBytes.{Appends-nil, Keeps-refl}
+use Rattle.std.proofs.Common.{◌≡◌, List, ℕ, Option, arith}
+use Rattle.std.proofs.KnownBytes.{Keeps-refl}
 use Rattle.std.specs.Io.KnownBytes.{Appends}
 use Rattle.calls.specs.Streams.{descriptor_of, Goes}
-use Rattle.calls.specs.declared.rules.streams.Stream.TheVariants.{Output, Error}
+use Rattle.calls.specs.declared.streams.Stream.TheVariants.{Output, Error}
 
 pub goes_output : (out out' err : Option (List ℕ)) (bytes : List ℕ) → Appends out out' bytes → Goes (descriptor_of Output) out out' err err bytes
 goes_output out out' err bytes a =
@@ -18,16 +18,3 @@ goes_error out err err' bytes a =
       to_output = λ e. let z : ◌≡◌ {A = ℕ} 2 1 = cc in absurd (omega arith);
       to_error = λ e. (Keeps-refl out, a);
     }
-
--- nothing went anywhere
-pub goes_nowhere : (descriptor : ℤ) (out err : Option (List ℕ)) → Goes descriptor out out err err []
-goes_nowhere descriptor out err =
-    record {
-      to_output = λ e. (Appends-nil out, Keeps-refl err);
-      to_error = λ e. (Keeps-refl out, Appends-nil err);
-    }
-
--- counted from 0
-pub goes_first : {descriptor : ℤ} {out out' err err' : Option (List ℕ)} (first done : ℕ) (text : List ℕ) → first ≡ 0
-    → Goes descriptor out out' err err' (take (done - first) text) → Goes descriptor out out' err err' (take done text)
-goes_first {descriptor} {out} {out'} {err} {err'} first done text z g = subst (λ n. Goes descriptor out out' err err' (take n text)) (omega (arith, z)) g

@@ -1,10 +1,11 @@
 -- What is made of what was read of an input is what is made of the whole input.
-use Rattle.std.proofs.Common.{◌≡◌, refl, sym, ap, subst, ◌∙◌, List, [], ℕ, ◌<◌, ◌≤◌, Option, Some, None, IfSome, length, take, length-append, arith}
+use Rattle.std.proofs.Common.{◌≡◌, refl, sym, ap, ◌∙◌, List, [], ℕ, ◌<◌, ◌≤◌, Option, Some, None, IfSome, length, take, length-append, arith}
 use Rattle.std.proofs.lemmas.List.{take-append-le, take-take}
-use Rattle.std.specs.Io.KnownBytes.{Appends, Consumes, IsAtEnd}
+use Rattle.std.specs.Io.KnownBytes.{Consumes, IsAtEnd}
 use native.Mathlib.Decide.{dec_lt}
 use lib.Seq.{length-take-le}
 use Rattle.calls.specs.Calls.{EnoughFor, Whole}
+use Rattle.calls.specs.Moved.{Read}
 
 -- what was read is a front of the input, and enough of it: the buffer is full, or the last read found the end
 pub read_enough : (before left : Option (List ℕ)) (space : List ℕ) (size : ℕ) → size ≤ length space → (size < length space → IsAtEnd left) → Consumes before left (take size space)
@@ -30,7 +31,7 @@ enough_known {made} e (Some given) left space size inside more end read =
     let enough = read_enough (Some given) left space size inside end read in
     ap made (sym enough.0) ∙ e given enough.1.0 size (length space) more enough.1.1 enough.1.2
 
-pub known_taken : (made : List ℕ → List ℕ) (before old new : Option (List ℕ)) (read : List ℕ) (done : ℕ) → IfSome before (λ given. made read ≡ made given)
-    → Appends old new (take done (made read)) → IfSome before (λ given. Appends old new (take done (made given)))
-known_taken made None old new read done same a = tt
-known_taken made (Some given) old new read done same a = subst (λ l. Appends old new (take done l)) same a
+-- what was read to the front of a buffer with room for more than the most that matter
+pub read_most : (most : ℕ) (before after : Option (List ℕ)) (space : List ℕ) (size : ℕ) → most < length space → size ≤ length space → (size < length space → IsAtEnd after)
+    → Consumes before after (take size space) → Read most before after (take size space)
+read_most most before after space size room inside end read = record { consumed = read; to_end = λ l. end (omega (arith, room, l, length-take-le size space inside)) }

@@ -1,7 +1,6 @@
--- Laws of what calls of read and write answered, of the bytes that they moved, of what is left to be written, and of where it goes.
-pub mod Bytes
+-- Laws of the bytes that are read and written, and of what it is enough to read.
 pub mod Calls
 pub mod Going
 pub mod Known
-pub mod Left
-pub mod Parts
+pub mod Moves
+pub mod Taken

@@ -1,4 +1,4 @@
--- What calls of read and write answered, what is to be written, and where it goes.
+-- Which bytes are read and written, what it is enough to read, and where a text goes.
 pub mod Calls
-pub mod Next
+pub mod Moved
 pub mod Streams

@@ -1,8 +1,8 @@
 -- Where a text goes, and what went there.
 use Rattle.std.specs.Prelude.{◌≡◌, List, ℕ, ℤ, pos, Option}
 use Rattle.std.specs.Io.KnownBytes.{Appends, Keeps}
-use Rattle.calls.specs.declared.rules.streams.Stream.{Stream}
-use Rattle.calls.specs.declared.rules.streams.Stream.TheVariants.{Output, Error}
+use Rattle.calls.specs.declared.streams.Stream.{Stream}
+use Rattle.calls.specs.declared.streams.Stream.TheVariants.{Output, Error}
 
 -- its descriptor
 abbrev pub descriptor_of : Stream → ℤ

@@ -1,116 +1,80 @@
 // Changes of a system in one place, as a row names it.
 ghost use Rattle.std.specs.Prelude.{◌<◌};
 
-use crate::numbers::{byte, message_of, of_message, of_station, set, station_of, tick};
-use crate::row::Row;
-use election::{Link, PLACES, System};
+use crate::numbers::{capped, set_message, set_station};
+use crate::row::{Change, Row};
+use election::{PLACES, System};
 
-// Where the station with a number stands.
-fn seat(p: u64) -> usize
-    ensures { result < 8 }
+// Where what has a number from 1 to most stands, and for another number where the first stands.
+fn spot(number: usize, most: usize) -> usize
+    requires { 0 < most }
+    ensures { result < most }
 {
-    match p {
-        1..=8 => (p - 1) as usize,
-        _ => 0,
-    }
-}
-
-// Where the message with a number stands.
-fn spot(k: u64) -> usize {
-    match k {
-        1..=255 => (k - 1) as usize,
-        _ => 0,
-    }
-}
-
-// The system with another number of its own.
-fn with_number(mut s: System, f: u64, x: u64) -> System {
-    match f {
-        0 => s.ready = x == 1,
-        1 => s.n = byte(x),
-        2 => s.period = tick(x),
-        3 => s.tick = tick(x),
-        5 => s.clock = x == 1,
-        16..=23 => s.sent[(f - 16) as usize] = tick(x),
-        24..=31 => s.ranks[(f - 24) as usize] = byte(x),
-        _ => {}
-    }
-    s
-}
-
-// The system with another number of station p.
-fn with_field(mut s: System, p: u64, f: u64, x: u64) -> System {
-    let k = seat(p);
-    s.stations[k] = station_of(set(of_station(s.stations[k]), f, x));
-    s
-}
-
-// The link with another number of its message at a place.
-fn with_message(mut l: Link, k: usize, f: u64, x: u64) -> Link {
-    if k < PLACES {
-        l.messages[k] = message_of(set(of_message(l.messages[k]), f, x));
-    }
-    l
-}
-
-// The link with its first message and that at a place in each other's.
-fn exchanged(mut l: Link, k: usize) -> Link {
-    let first = l.messages[0];
-    if k < PLACES {
-        l.messages[0] = l.messages[k];
-        l.messages[k] = first;
-    }
-    l
-}
-
-// The link with the change that a letter and numbers say; or another link.
-fn rerouted(mut l: Link, other: Link, change: u8, xs: [u64; 64]) -> Link {
-    let x = xs[40];
-    match change {
-        b'U' => {
-            l.used = byte(x);
-            l
-        }
-        b'M' => with_message(l, spot(xs[34]), xs[35], x),
-        b'X' => exchanged(l, spot(x)),
-        _ => other,
+    if (1..=most).contains(&number) {
+        number - 1
+    } else {
+        0
     }
 }
 
 // Where the link from one station to another stands.
-fn way(p: u64, q: u64) -> usize
+// (d) layout's place_of asks for numbers from 1 to 8 in bytes; any two numbers are taken here, so a call of it would be longer.
+fn way(p: usize, q: usize) -> usize
     ensures { result < 64 }
 {
-    8 * seat(p) + seat(q)
+    8 * spot(p, 8) + spot(q, 8)
 }
 
-// The system with another delay of the link from p to q.
-fn with_delay(mut s: System, p: u64, q: u64, delay: u8) -> System {
-    let k = way(p, q);
-    s.delays[k] = delay;
-    s
+// Gives a system another number of its own.
+fn set_system(s: &mut System, place: usize, x: u64) {
+    match place {
+        0 => s.ready = x == 1,
+        1 => s.n = capped(x, u8::MAX),
+        2 => s.period = capped(x, u32::MAX),
+        3 => s.tick = capped(x, u32::MAX),
+        5 => s.clock = x == 1,
+        16..=23 => s.sent[place - 16] = capped(x, u32::MAX),
+        24..=31 => s.ranks[place - 24] = capped(x, u8::MAX),
+        _ => {}
+    }
 }
 
-// The system with another link from p to q; x is the value that it gets.
-fn with_link(mut s: System, p: u64, q: u64, x: u64, change: u8, xs: [u64; 64]) -> System {
-    let k = way(p, q);
-    let other = way(1, x);
-    s.links[k] = rerouted(s.links[k], s.links[other], change, xs);
-    s
-}
-
-// The system with the change of a row.
-pub fn changed(s: System, r: Row) -> System {
-    let xs = r.numbers;
-    let p = xs[32];
-    let q = xs[33];
+// Changes a link, or has it be that from station 1 to another.
+fn reroute(s: &mut System, link: usize, change: Change, xs: &[u64; 64])
+    requires { link < 64 }
+{
     let x = xs[40];
-    let change = r.change;
     match change {
-        0 => s,
-        b'N' => with_number(s, p, x),
-        b'S' => with_field(s, p, q, x),
-        b'Z' => with_delay(s, p, q, byte(x)),
-        _ => with_link(s, p, q, x, change, xs),
+        Change::Used => s.links[link].used = capped(x, u8::MAX),
+        Change::Message => {
+            if let Some(message) = s.links[link]
+                .messages
+                .get_mut(spot(capped(xs[34], usize::MAX), 255))
+            {
+                set_message(message, capped(xs[35], usize::MAX), x);
+            }
+        }
+        Change::Exchange => {
+            let k = spot(capped(x, usize::MAX), 255);
+            if k < PLACES {
+                s.links[link].messages.swap(0, k);
+            }
+        }
+        _ => s.links[link] = s.links[way(1, capped(x, usize::MAX))],
+    }
+}
+
+// Changes a system as a row says.
+pub fn change(s: &mut System, row: &Row) {
+    let xs = &row.numbers;
+    let p = capped(xs[32], usize::MAX);
+    let q = capped(xs[33], usize::MAX);
+    let x = xs[40];
+    match row.change {
+        None => {}
+        Some(Change::System) => set_system(s, p, x),
+        Some(Change::Station) => set_station(&mut s.stations[spot(p, 8)], q, x),
+        Some(Change::Delay) => s.delays[way(p, q)] = capped(x, u8::MAX),
+        Some(change) => reroute(s, way(p, q), change, xs),
     }
 }

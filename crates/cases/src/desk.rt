@@ -1,27 +1,19 @@
 // The cases of the system that a schedule leaves.
-use crate::changes::changed;
+use crate::changes::change;
 use crate::commands::command_case;
-use crate::line::front;
+use crate::line::Line;
 use crate::listings::listing_case;
-use crate::row::Row;
+use crate::row::{Operation, Row};
 use crate::tryouts::tryout_case;
-use election::System;
 
-// Runs a case on a system, with the bytes after the schedule.
-fn system_case(rt: &HostRuntime, r: Row, s: System, bytes: &mut [u8]) {
-    let operation = r.operation;
+// Runs a case on the system that the row's schedule leaves, with its change, and with the bytes after the schedule.
+pub fn desk_case(name: Line, row: &Row, operation: Operation, bytes: &mut [u8]) -> Option<Line> {
+    let (schedule, rest) = bytes.split_at_mut_checked(row.cut)?;
+    let mut s = simulator::schedule(schedule).system;
+    change(&mut s, row);
     match operation {
-        b'T' => listing_case(rt, r.name, s, bytes),
-        b'Y' => tryout_case(rt, r, s, bytes),
-        _ => command_case(rt, r, s, bytes),
-    }
-}
-
-// Runs a case on the system that its schedule leaves, with its change.
-pub fn desk_case(rt: &HostRuntime, r: Row, bytes: &mut [u8]) {
-    let cut = r.cut;
-    let s = simulator::schedule(front(bytes, cut)).system;
-    if cut <= bytes.len() {
-        system_case(rt, r, changed(s, r), &mut bytes[cut..]);
+        Operation::List => Some(listing_case(name, &s, rest)),
+        Operation::TryOut => tryout_case(name, row, &s, rest),
+        _ => Some(command_case(name, operation, s, rest)),
     }
 }

@@ -1,69 +1,66 @@
 // The cases of frames: what writing and reading answer, and what they leave.
-use crate::line::Line;
-use crate::numbers::{byte, lists, short, tick};
+use crate::line::{Commas, Line, Octets};
+use crate::numbers::capped;
 use crate::row::Row;
-use frame::Written;
-use frame::numbers::{length_of, read_refusal, sender_of, write_refusal};
+use frame::stamp::Stamp;
+use frame::{Leader, WriteError, stamp};
+use std::array;
 
-// The numbers from place 40 on, as counts.
-fn entries(xs: [u64; 64]) -> [u16; 16] {
-    let mut v = [0u16; 16];
-    for k in 0..16 {
-        v[k] = short(xs[k + 40]);
-    }
-    v
+// What writing answers, and the buffer.
+fn shown(name: Line, written: Result<usize, WriteError>, buffer: &[u8]) -> Line {
+    let refusal = written.err().map(|why| why.number());
+    name.told(refusal, written.unwrap_or(0))
+        .with(", buffer")
+        .with(Octets(buffer))
 }
 
-// Prints what writing answers, and the buffer.
-fn show(rt: &HostRuntime, name: Line, w: Written, buffer: &[u8]) {
-    name.told(write_refusal(w), length_of(w) as u64)
-        .text(b", buffer")
-        .octets(buffer)
-        .print(rt);
+// Writes a frame of the first of the sixteen counts; no case asks for more.
+pub fn write_case(name: Line, row: &Row, buffer: &mut [u8]) -> Option<Line> {
+    let xs = &row.numbers;
+    let counts: [u16; 16] = array::from_fn(|k| capped(xs[40 + k], u16::MAX));
+    let counts = counts.get(..usize::from(capped(xs[34], u8::MAX)))?;
+    let written = frame::write(
+        capped(xs[32], u8::MAX),
+        capped(xs[33], u8::MAX),
+        counts,
+        buffer,
+    );
+    Some(shown(name, written, buffer))
 }
 
-// Writes a frame, and prints the case.
-pub fn write_case(rt: &HostRuntime, r: Row, buffer: &mut [u8]) {
-    let xs = r.numbers;
-    let v = entries(xs);
-    let many = byte(xs[34]) as usize;
-    if many <= 16 {
-        let w = frame::write(byte(xs[32]), byte(xs[33]), &v[..many], buffer);
-        show(rt, r.name, w, buffer);
-    }
+// Reads a frame; refused, it has no sender and no counts.
+pub fn read_case(name: Line, row: &Row, bytes: &[u8]) -> Line {
+    let read = frame::read(capped(row.numbers[32], u8::MAX), bytes);
+    let refusal = read.err().map(|why| why.number());
+    let Leader { sender, counts } = read.unwrap_or(Leader {
+        sender: 0,
+        counts: [0; 8],
+    });
+    let counts = Commas(&counts);
+    name.answer(refusal)
+        .with(format_args!(", sender {sender}, counts {counts}"))
 }
 
-// Reads a frame, and prints the answer.
-pub fn read_case(rt: &HostRuntime, r: Row, bytes: &[u8]) {
-    let xs = r.numbers;
-    let name = r.name;
-    let received = frame::read(byte(xs[32]), bytes);
-    let answer = received.answer;
-    let counts = received.counts;
-    name.answer(read_refusal(answer))
-        .field(b", sender ", sender_of(answer) as u64)
-        .filled(
-            b", counts \x08,\x09,\x0a,\x0b,\x0c,\x0d,\x0e,\x0f",
-            lists(counts, [0u32; 8]),
-        )
-        .print(rt);
+// Writes a clock frame.
+pub fn stamp_write_case(name: Line, row: &Row, buffer: &mut [u8]) -> Line {
+    let xs = &row.numbers;
+    let written = stamp::write(
+        capped(xs[32], u8::MAX),
+        capped(xs[33], u8::MAX),
+        capped(xs[34], u32::MAX),
+        buffer,
+    );
+    shown(name, written, buffer)
 }
 
-// Writes a clock frame, and prints the case.
-pub fn stamp_write_case(rt: &HostRuntime, r: Row, buffer: &mut [u8]) {
-    let xs = r.numbers;
-    let w = frame::stamp::write(byte(xs[32]), byte(xs[33]), tick(xs[34]), buffer);
-    show(rt, r.name, w, buffer);
-}
-
-// Reads a clock frame, and prints the answer.
-pub fn stamp_read_case(rt: &HostRuntime, r: Row, bytes: &[u8]) {
-    let xs = r.numbers;
-    let name = r.name;
-    let stamped = frame::stamp::read(byte(xs[32]), bytes);
-    let answer = stamped.answer;
-    name.answer(read_refusal(answer))
-        .field(b", sender ", sender_of(answer) as u64)
-        .field(b", stamp ", stamped.stamp as u64)
-        .print(rt);
+// Reads a clock frame; refused, it has no sender and no stamp.
+pub fn stamp_read_case(name: Line, row: &Row, bytes: &[u8]) -> Line {
+    let read = stamp::read(capped(row.numbers[32], u8::MAX), bytes);
+    let refusal = read.err().map(|why| why.number());
+    let Stamp { sender, stamp } = read.unwrap_or(Stamp {
+        sender: 0,
+        stamp: 0,
+    });
+    name.answer(refusal)
+        .with(format_args!(", sender {sender}, stamp {stamp}"))
 }

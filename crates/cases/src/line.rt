@@ -1,127 +1,98 @@
 // A line of text: made piece by piece, and written whole.
-use calls::rules::write_message;
+use arrayvec::ArrayVec;
+use calls::write_message;
+use std::fmt::{Display, Write};
+use std::{fmt, io};
 
+// The first 512 bytes of a line; a full one takes no more.
+#[derive(Drop)]
+pub struct Line(ArrayVec<u8, 512>);
+
+// Bytes in hex, a space before each.
 #[derive(Clone, Copy)]
-pub struct Line {
-    pub bytes: [u8; 512],
-    pub size: usize,
-}
+pub struct Octets<'a>(pub &'a [u8]);
 
-// The first bytes of a text, or all where it has fewer.
-pub fn front(s: &[u8], size: usize) -> &[u8] {
-    if size <= s.len() {
-        return &s[..size];
+impl Display for Octets<'_> {
+    fn fmt<W: fmt::Write>(&self, f: &mut fmt::Formatter<W>) -> fmt::Result {
+        for byte in self.0 {
+            write!(f, " {byte:02x}")?;
+        }
+        Ok(())
     }
-    s
 }
 
-// The sign of a hex digit.
-fn sign(x: u8) -> u8 {
-    match x {
-        0..=9 => x + 48,
-        10..=15 => x + 87,
-        _ => 63,
+// Numbers, a comma between each two.
+#[derive(Clone, Copy)]
+pub struct Commas<'a, T>(pub &'a [T]);
+
+impl<T: Display> Display for Commas<'_, T> {
+    fn fmt<W: fmt::Write>(&self, f: &mut fmt::Formatter<W>) -> fmt::Result {
+        let mut comma = "";
+        for number in self.0 {
+            write!(f, "{comma}{number}")?;
+            comma = ",";
+        }
+        Ok(())
+    }
+}
+
+impl Write for Line {
+    fn write_str(&mut self, text: &str) -> fmt::Result {
+        self.push(text.as_bytes());
+        Ok(())
     }
 }
 
 impl Line {
     // The empty line.
-    pub fn new() -> Self {
-        Self {
-            bytes: [0u8; 512],
-            size: 0,
+    pub fn new() -> Line {
+        Line(ArrayVec::new())
+    }
+
+    // Adds bytes.
+    pub fn push(&mut self, bytes: &[u8]) {
+        for &byte in bytes {
+            let _ = self.0.try_push(byte);
         }
     }
 
-    // The line and one byte more; a full line takes none.
-    pub fn byte(mut self, b: u8) -> Self {
-        let size = self.size;
-        if size < 512 {
-            self.bytes[size] = b;
-            self.size = size + 1;
-        }
+    // The line and bytes.
+    pub fn bytes(mut self, bytes: &[u8]) -> Line {
+        self.push(bytes);
         self
     }
 
     // The line and a text.
-    pub fn text(self, s: &[u8]) -> Self {
-        let mut line = self;
-        for k in 0..s.len() {
-            line = line.byte(s[k]);
-        }
-        line
-    }
-
-    // The line and a number, in decimal.
-    fn number(self, x: u64) -> Self {
-        let mut digits = [0u8; 20];
-        let size = io::decimal(x, &mut digits);
-        self.text(&digits[..size])
-    }
-
-    // The line and a named number.
-    pub fn field(self, name: &[u8], x: u64) -> Self {
-        self.text(name).number(x)
-    }
-
-    // The line and a byte; below 32 it stands for the number at that place.
-    fn part(self, b: u8, xs: [u64; 64]) -> Self {
-        if b < 32 {
-            return self.number(xs[b as usize]);
-        }
-        self.byte(b)
-    }
-
-    // The line and a text with places for numbers.
-    pub fn filled(self, s: &[u8], xs: [u64; 64]) -> Self {
-        let mut line = self;
-        for k in 0..s.len() {
-            line = line.part(s[k], xs);
-        }
-        line
-    }
-
-    // The line and bytes in hex, with a space before each.
-    pub fn octets(self, s: &[u8]) -> Self {
-        let mut line = self;
-        for k in 0..s.len() {
-            let b = s[k];
-            line = line.byte(32).byte(sign(b / 16)).byte(sign(b % 16));
-        }
-        line
+    pub fn with<T: Display + Drop>(mut self, text: T) -> Line {
+        let _ = write!(self, "{text}");
+        self
     }
 
     // The line and one of two texts.
-    pub fn either(self, first: bool, a: &[u8], b: &[u8]) -> Self {
-        if first {
-            return self.text(a);
-        }
-        self.text(b)
+    pub fn either(self, first: bool, a: &str, b: &str) -> Line {
+        self.with(if first { a } else { b })
     }
 
-    // The line and an answer: the number of a refusal, or 0 for accepted.
-    pub fn answer(self, refusal: u64) -> Self {
-        if refusal == 0 {
-            return self.text(b": accepted");
+    // The line and an answer: accepted, or the number of a refusal.
+    pub fn answer(self, refusal: Option<u8>) -> Line {
+        match refusal {
+            None => self.with(": accepted"),
+            Some(number) => self.with(format_args!(": refused {number}")),
         }
-        self.field(b": refused ", refusal)
     }
 
-    // The line, an answer and the length that is answered.
-    pub fn told(self, refusal: u64, length: u64) -> Self {
-        self.answer(refusal).field(b", length ", length)
+    // The line, an answer and the length that is answered, 0 with a refusal.
+    pub fn told(self, refusal: Option<u8>, length: usize) -> Line {
+        self.answer(refusal).with(format_args!(", length {length}"))
     }
 
     // The line and whether something is as it was.
-    pub fn kept(self, same: bool) -> Self {
-        self.either(same, b", unchanged", b", changed")
+    pub fn kept(self, same: bool) -> Line {
+        self.either(same, ", unchanged", ", changed")
     }
 
     // Ends the line and writes it.
-    pub fn print(self, rt: &HostRuntime) {
-        let line = self.byte(10);
-        let bytes = line.bytes;
-        let size = line.size;
-        write_message(&mut rt.stdout(), front(&bytes, size));
+    pub fn print<W: io::Write>(self, out: &mut W) {
+        let _ = write_message(out, &self.bytes(b"\n").0);
     }
 }

@@ -1,15 +1,14 @@
 // The cases of listings: what each answers, and the buffer as it is then, to a bar.
-use crate::commands::{length_of, refusal_of};
 use crate::line::Line;
 use election::System;
+use listing::listing;
 
-// Lists a system into a buffer, and prints the answer and the buffer.
-pub fn listing_case(rt: &HostRuntime, name: Line, s: System, buffer: &mut [u8]) {
-    let answer = listing::listing(s, buffer);
-    name.told(refusal_of(answer), length_of(answer))
-        .field(b" of ", buffer.len() as u64)
-        .byte(10)
-        .text(buffer)
-        .byte(b'|')
-        .print(rt);
+// Lists a system into a buffer.
+pub fn listing_case(name: Line, s: &System, buffer: &mut [u8]) -> Line {
+    let listed = listing(s, buffer);
+    let size = buffer.len();
+    name.told(listed.err().map(|why| why.number()), listed.unwrap_or(0))
+        .with(format_args!(" of {size}\n"))
+        .bytes(buffer)
+        .with("|")
 }

@@ -1,7 +1,7 @@
 // Runs the cases of standard input, one to a line, and prints a line for each, and how many there were.
 #![tactic(auto)]
 
-use calls::rules::read_whole;
+use calls::read_whole;
 
 mod changes;
 mod commands;
@@ -18,11 +18,10 @@ mod systems;
 mod table;
 mod tryouts;
 
+// Reads the table, as far as it comes and as there is room, and runs it.
 fn main(rt: HostRuntime) {
-    let mut space = [0u8; 131072];
-    let mut bytes = [0u8; 65537];
-    let mut size = 0;
-    let mut got = Some(0);
-    read_whole(&mut rt.stdin(), &mut space, &mut size, &mut got);
-    table::run(&rt, &space[..size], &mut bytes);
+    let mut text = [0; 131_072];
+    let mut bytes = [0; 65_537];
+    let size = read_whole(&mut rt.stdin(), &mut text).unwrap_or_else(|cut| cut.at);
+    table::run(&text[..size], &mut bytes, &mut rt.stdout());
 }

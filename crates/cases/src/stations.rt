@@ -1,95 +1,93 @@
-// The cases of station operations: what each answers, and the station that it gives back.
-ghost use Rattle.std.specs.Prelude.{◌≡◌};
-ghost use Rattle.operations.specs.Operations.{refusal_of};
-
-use crate::line::Line;
-use crate::numbers::{byte, counts, of_station, ranks, same, station_of, tick};
-use crate::row::Row;
-use operations::{Answer, Outcome, crash, expire, hear, slot, start};
-use station::Station;
-
-// The number of the refusal, 0 for none.
-fn refusal_of(a: Answer) -> u64
-    ensures { result ≡ refusal_of a }
-{
-    match a {
-        Answer::Accepted => 0,
-        Answer::Up => 8,
-        Answer::WornOut => 10,
-        Answer::Unfit => 15,
-    }
-}
+// The cases of station operations: what each answers, and the station that it leaves.
+use crate::line::{Commas, Line};
+use crate::numbers::{capped, station_of};
+use crate::row::{Change, Operation, Row};
+use operations::Refusal;
+use station::{Seat, Station};
+use std::array;
 
 // The line and every field of a station; those that only a clock head has are shown of one.
-fn fields(line: Line, s: Station, clock: bool) -> Line {
-    let xs = of_station(s);
+fn fields(line: Line, station: &Station, clock: bool) -> Line {
+    let Station {
+        leader,
+        incarnation,
+        stable,
+        timer,
+        slot,
+        stamp,
+        lowest,
+        timeout,
+        ..
+    } = *station;
+    let counts = Commas(&station.recovered);
+    let timeouts = Commas(&station.timeouts);
     let shown = line
-        .either(s.up, b": up", b": down")
-        .filled(b" leader \x03 inc \x00 kept \x01 timer \x04 slot \x05", xs)
-        .either(s.recovering, b" wait on", b" wait off")
-        .filled(
-            b" rec \x08,\x09,\x0a,\x0b,\x0c,\x0d,\x0e,\x0f timeouts \x10,\x11,\x12,\x13,\x14,\x15,\x16,\x17",
-            xs,
-        );
+        .either(station.up, ": up", ": down")
+        .with(format_args!(
+            " leader {leader} inc {incarnation} kept {stable} timer {timer} slot {slot}"
+        ))
+        .either(station.recovering, " wait on", " wait off")
+        .with(format_args!(" rec {counts} timeouts {timeouts}"));
     if clock {
-        return shown.filled(b" stamp \x18 lowest \x19 timeout \x1a", xs);
-    }
-    shown
-}
-
-// What an operation makes of a station, at the numbers from place 32 on: me, n, the period, the tick, the sender; from 40 on the counts, from
-// 48 on the ranks.
-fn outcome(operation: u8, xs: [u64; 64], s: Station) -> Outcome {
-    let me = byte(xs[32]);
-    let n = byte(xs[33]);
-    let period = tick(xs[34]);
-    let t = tick(xs[35]);
-    match operation {
-        b'S' => start(me, n, period, t, s),
-        b'C' => crash(me, n, period, t, s),
-        b'H' => hear(ranks(xs), me, n, period, t, byte(xs[36]), counts(xs, 40), s),
-        b'E' => expire(me, n, period, t, s),
-        _ => slot(ranks(xs), me, n, period, t, s),
-    }
-}
-
-// The same of a clock head; the stamp stands behind the sender.
-fn clock_outcome(operation: u8, xs: [u64; 64], s: Station) -> Outcome {
-    let me = byte(xs[32]);
-    let n = byte(xs[33]);
-    let period = tick(xs[34]);
-    let t = tick(xs[35]);
-    match operation {
-        b'S' => clock::start(me, n, period, t, s),
-        b'C' => clock::crash(me, n, period, t, s),
-        b'H' => clock::hear(me, n, period, t, byte(xs[36]), tick(xs[37]), s),
-        b'E' => clock::expire(me, n, period, t, s),
-        _ => clock::slot(me, n, period, t, s),
-    }
-}
-
-// Hands a station to an operation, and prints the answer, with the station's fields where it is accepted.
-pub fn station_case(rt: &HostRuntime, r: Row) {
-    let xs = r.numbers;
-    let name = r.name;
-    let clock = r.change == b'K';
-    let before = station_of(xs);
-    let out = if clock {
-        clock_outcome(r.operation, xs, before)
+        shown.with(format_args!(" stamp {stamp} lowest {lowest} timeout {timeout}"))
     } else {
-        outcome(r.operation, xs, before)
+        shown
+    }
+}
+
+// Does a row's operation on a station, and answers whether LEADER is sent. The numbers from place 32 on are me, n, the period, the tick,
+// the sender and, of a clock head, the stamp; from 40 on the counts, from 48 on the ranks.
+fn operate(
+    station: &mut Station,
+    row: &Row,
+    operation: Operation,
+    clock: bool,
+) -> Result<bool, Refusal> {
+    let xs = &row.numbers;
+    let seat = Seat {
+        me: capped(xs[32], u8::MAX),
+        n: capped(xs[33], u8::MAX),
+        period: capped(xs[34], u32::MAX),
     };
-    let answer = out.answer;
-    let after = out.station;
-    let refusal = refusal_of(answer);
-    let unchanged = same(of_station(before), of_station(after));
+    let now = capped(xs[35], u32::MAX);
+    let from = capped(xs[36], u8::MAX);
+    let ranks = array::from_fn(|k| capped(xs[48 + k], u8::MAX));
+    let counts = array::from_fn(|k| capped(xs[40 + k], u16::MAX));
+    match operation {
+        Operation::Start if clock => clock::start(station, seat, now)?,
+        Operation::Start => operations::start(station, seat, now)?,
+        Operation::Crash if clock => clock::crash(station, seat, now)?,
+        Operation::Crash => operations::crash(station, seat, now)?,
+        Operation::Hear if clock => clock::hear(
+            station,
+            seat,
+            now,
+            from,
+            capped(xs[37], u32::MAX),
+        )?,
+        Operation::Hear => operations::hear(station, &ranks, seat, now, from, &counts)?,
+        Operation::Expire if clock => clock::expire(station, seat, now)?,
+        Operation::Expire => operations::expire(station, seat, now)?,
+        _ if clock => return clock::slot(station, seat, now),
+        _ => return operations::slot(station, &ranks, seat, now),
+    }
+    Ok(false)
+}
+
+// Hands a station to an operation; accepted, its fields are shown.
+pub fn station_case(name: Line, row: &Row, operation: Operation) -> Line {
+    let clock = row.change == Some(Change::Clock);
+    let before = station_of(&row.numbers);
+    let mut station = before;
+    let done = operate(&mut station, row, operation, clock);
+    let refusal = done.err().map(|why| why.number());
     let line = name
         .answer(refusal)
-        .either(out.sends, b", sends", b", silent")
-        .kept(unchanged);
-    if refusal == 0 {
-        fields(line, after, clock).print(rt);
+        .either(done.unwrap_or(false), ", sends", ", silent")
+        .kept(station == before);
+    if refusal.is_none() {
+        fields(line, &station, clock)
     } else {
-        line.print(rt);
+        line
     }
 }

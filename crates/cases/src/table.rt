@@ -31,194 +31,88 @@
 use crate::desk::desk_case;
 use crate::frames::{read_case, stamp_read_case, stamp_write_case, write_case};
 use crate::line::Line;
-use crate::row::{BYTES, NAME, Row, blank};
+use crate::row::{Operation, Reading, Row};
 use crate::schedules::schedule_case;
 use crate::searches::search_case;
 use crate::stations::station_case;
+use std::io::Write;
+use std::mem;
 
-// The value of a digit, 16 for another byte.
-fn value(b: u8) -> u8 {
-    match b {
-        b'0'..=b'9' => b - 48,
-        b'a'..=b'f' => b - 87,
-        _ => 16,
+// A table as far as it is read: how many cases were run, and the line that is read and its name.
+#[derive(Drop)]
+struct Table {
+    count: u64,
+    row: Row,
+    name: Line,
+}
+
+// The value of a digit.
+fn value(byte: u8) -> Option<u8> {
+    match byte {
+        b'0'..=b'9' => Some(byte - b'0'),
+        b'a'..=b'f' => Some(byte - b'a' + 10),
+        _ => None,
     }
 }
 
-// The number and a digit more.
-fn longer(x: u64, d: u8) -> u64 {
-    if x < 1000000000 {
-        return 10 * x + d as u64;
-    }
-    x
-}
-
-// Puts a hex digit behind the last of a byte's.
-fn put(bytes: &mut [u8], at: usize, d: u8) {
-    if at < bytes.len() {
-        bytes[at] = std::num::wrapping_add_u8(bytes[at] % 16 * 16, d);
-    }
-}
-
-// Has a byte stand at another place too.
-fn copy(bytes: &mut [u8], from: usize, to: usize) {
-    if from < bytes.len() {
-        if to < bytes.len() {
-            bytes[to] = bytes[from];
+// Runs the case of a row, and answers its line, or none where the row lacks bytes or has too many counts.
+fn run_row(operation: Operation, row: &Row, name: Line, bytes: &mut [u8]) -> Option<Line> {
+    match operation {
+        Operation::Write => write_case(name, row, bytes),
+        Operation::Read => Some(read_case(name, row, bytes)),
+        Operation::WriteStamp => Some(stamp_write_case(name, row, bytes)),
+        Operation::ReadStamp => Some(stamp_read_case(name, row, bytes)),
+        Operation::Schedule => Some(schedule_case(name, bytes)),
+        Operation::Command | Operation::Soundness | Operation::List | Operation::TryOut => {
+            desk_case(name, row, operation, bytes)
         }
+        Operation::Search => Some(search_case(name, row)),
+        _ => Some(station_case(name, row, operation)),
     }
 }
 
-// Has the bytes from a place up to another stand at a third too. Answers where they end there.
-fn double(bytes: &mut [u8], from: usize, to: usize, at: usize) -> usize {
-    let mut end = at;
-    for k in from..to {
-        copy(bytes, k, end);
-        end = std::num::wrapping_add_usize(end, 1);
-    }
-    end
-}
-
-// Has the bytes from a place up to another stand there a number of times. Answers where they end.
-fn repeat(bytes: &mut [u8], from: usize, to: usize, times: u64) -> usize {
-    let mut end = to;
-    for k in 1..times {
-        end = double(bytes, from, to, end);
-    }
-    end
-}
-
-// The row and a digit more, of a number or of a byte.
-fn digit(mut r: Row, bytes: &mut [u8], d: u8) -> Row {
-    let at = r.at;
-    if at < 64 {
-        r.numbers[at] = longer(r.numbers[at], d);
-        return r;
-    }
-    let digits = r.digits;
-    put(bytes, digits / 2, d);
-    r.digits = std::num::wrapping_add_usize(digits, 1);
-    r
-}
-
-// The row after the bytes that repeat.
-fn closed(mut r: Row, bytes: &mut [u8]) -> Row {
-    let end = repeat(bytes, r.group, r.digits / 2, r.numbers[62]);
-    r.digits = std::num::wrapping_add_usize(end, end);
-    r
-}
-
-// The place after a place; the first number comes after the last.
-fn next(at: usize) -> usize {
-    match at {
-        0..=62 => at + 1,
-        63 => 0,
-        _ => BYTES,
-    }
-}
-
-// The place after a byte that is no digit: numbers begin with the space after a letter or a mark.
-fn place(at: usize, b: u8) -> usize {
-    match b {
-        b' ' => next(at),
-        b'A'..=b'Z' => 31,
-        b'=' => 39,
-        b'%' => 47,
-        b'|' => 63,
-        b'/' => 7,
-        b'+' => 15,
-        b'@' => 23,
-        b'*' => 62,
-        b'<' | b'>' | b';' | b'(' | b'"' => BYTES,
-        b':' | b'#' => NAME,
-        _ => at,
-    }
-}
-
-// The row and a byte that is no digit.
-fn mark(mut r: Row, b: u8) -> Row {
-    let size = r.digits / 2;
-    r.at = place(r.at, b);
-    match b {
-        b'A'..=b'Z' => {
-            if r.operation == 0 {
-                r.operation = b;
-            } else {
-                r.change = b;
+impl Table {
+    // Ends a line: its case is run and written.
+    fn end<W: Write>(&mut self, bytes: &mut [u8], out: &mut W) {
+        let row = self.row;
+        self.row = Row::new(row.cut);
+        let name = mem::replace(&mut self.name, Line::new());
+        if let Some(operation) = row.operation {
+            if let Some(bytes) = bytes.get_mut(..row.digits / 2) {
+                if let Some(line) = run_row(operation, &row, name, bytes) {
+                    line.print(out);
+                }
+                self.count = self.count.wrapping_add(1);
             }
         }
-        b'*' => {
-            r.numbers[62] = 0;
-            r.group = size;
+    }
+
+    // Takes a byte more.
+    fn step<W: Write>(&mut self, bytes: &mut [u8], byte: u8, out: &mut W) {
+        if byte == b'\n' {
+            self.end(bytes, out);
+        } else if self.row.reading == Reading::Name {
+            self.name.push(&[byte]);
+        } else if let Some(digit) = value(byte) {
+            self.row.digit(bytes, digit);
+        } else if byte == b')' {
+            self.row.close(bytes);
+        } else {
+            self.row.mark(byte);
         }
-        b'"' => r.digits = std::num::wrapping_add_usize(r.cut, r.cut),
-        b'>' => r.cut = size,
-        b';' => r.part = size,
-        _ => {}
-    }
-    r
-}
-
-// The row with a byte more of its name.
-fn named(mut r: Row, b: u8) -> Row {
-    let name = r.name;
-    r.name = name.byte(b);
-    r
-}
-
-// Runs the case of a row.
-fn run_row(rt: &HostRuntime, r: Row, bytes: &mut [u8]) {
-    let operation = r.operation;
-    match operation {
-        b'W' => write_case(rt, r, bytes),
-        b'R' => read_case(rt, r, bytes),
-        b'F' => stamp_write_case(rt, r, bytes),
-        b'G' => stamp_read_case(rt, r, bytes),
-        b'P' => schedule_case(rt, r, bytes),
-        b'D' | b'J' | b'T' | b'Y' => desk_case(rt, r, bytes),
-        b'V' => search_case(rt, r),
-        _ => station_case(rt, r),
     }
 }
 
-// The row after the end of a line. The line's case is run.
-fn ended(rt: &HostRuntime, r: Row, bytes: &mut [u8]) -> Row {
-    let count = r.count;
-    let cut = r.cut;
-    let size = r.digits / 2;
-    if r.operation == 0 {
-        return blank(count, cut);
+// Runs every case of a table, and writes how many there are.
+pub fn run<W: Write>(text: &[u8], bytes: &mut [u8], out: &mut W) {
+    let mut table = Table {
+        count: 0,
+        row: Row::new(0),
+        name: Line::new(),
+    };
+    for &byte in text {
+        table.step(bytes, byte, out);
     }
-    if size <= bytes.len() {
-        run_row(rt, r, &mut bytes[..size]);
-        return blank(std::num::wrapping_add_u64(count, 1), cut);
-    }
-    blank(count, cut)
-}
-
-// The row and a byte more.
-fn step(rt: &HostRuntime, r: Row, bytes: &mut [u8], b: u8) -> Row {
-    if b == 10 {
-        return ended(rt, r, bytes);
-    }
-    if r.at == NAME {
-        return named(r, b);
-    }
-    let d = value(b);
-    if d < 16 {
-        return digit(r, bytes, d);
-    }
-    if b == b')' {
-        return closed(r, bytes);
-    }
-    mark(r, b)
-}
-
-// Runs every case of a table, and prints how many there are.
-pub fn run(rt: &HostRuntime, s: &[u8], bytes: &mut [u8]) {
-    let mut row = blank(0, 0);
-    for k in 0..s.len() {
-        row = step(rt, row, bytes, s[k]);
-    }
-    Line::new().field(b"cases ", row.count).print(rt);
+    let count = table.count;
+    Line::new().with(format_args!("cases {count}")).print(out);
 }

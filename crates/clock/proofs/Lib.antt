@@ -5,7 +5,6 @@ pub mod Down
 pub mod Elimination
 pub mod Handed
 pub mod Keeps
-pub mod Outcomes
 pub mod Safe
 pub mod Sending
 pub mod Tests

@@ -13,8 +13,8 @@ use Rattle.clock.proofs.Handed.{Hearing, Expiring, Unended, Ended, Slotting, hea
 use Rattle.clock.proofs.Tests.{fit-ranges}
 
 module _ (me n period tick : ℕ) (s : Station) where
-  pub start-safe : fit_start me n period tick s ≡ true → (period ≤ 255) × (tick ≤ last_tick)
-  start-safe e =
+  pub start_safe : fit_start me n period tick s ≡ true → (period ≤ 255) × (tick ≤ last_tick)
+  start_safe e =
       let (h, f) = start_of me n period tick s e in
       let (r, k) = fit-ranges me n period tick s f in
       (r.period-high, h)

@@ -2,64 +2,82 @@
 #![tactic(auto)]
 
 ghost use Rattle.std.specs.Prelude.{◌≡◌};
-ghost use Rattle.operations.specs.Operations.{said};
+ghost use Rattle.operations.specs.Operations.{done, sent};
 ghost use Rattle.clock.specs.Operations.{starting, crashing, hearing, expiring, slotting};
 
-use operations::{Answer, Outcome, accepted, refused};
-use station::Station;
+use operations::Refusal;
+use station::{Seat, Station};
 
 pub mod fits;
 pub mod rules;
 
-// Starts head me of n at a tick.
-pub fn start(me: u8, n: u8, period: u32, tick: u32, s: Station) -> Outcome
-    ensures { said result ≡ starting me n period tick s }
+// (d) These have the shape of the operations of a head with flash; one generic set would need a trait with each test and each rule of both kinds, which is longer.
+// Starts a head at a tick.
+#[tactic(auto, using(crate::proofs::Safe::start_safe), unfolding(crate::specs::Operations::starting))]
+pub fn start(station: &mut Station, seat: Seat, tick: u32) -> Result<(), Refusal>
+    ensures { done result station.new ≡ starting seat.me seat.n seat.period tick station.old }
 {
-    if !fits::fit_start(me, n, period, tick, s) {
-        return refused(Answer::Unfit, s);
+    if !fits::fit_start(seat, tick, station) {
+        return Err(Refusal::Unfit);
     }
-    if s.up {
-        return refused(Answer::Up, s);
+    if station.up {
+        return Err(Refusal::Up);
     }
-    accepted(false, rules::start(period, tick, s))
+    rules::start(station, seat.period, tick);
+    Ok(())
 }
 
-// Crashes head me of n at a tick.
-pub fn crash(me: u8, n: u8, period: u32, tick: u32, s: Station) -> Outcome
-    ensures { said result ≡ crashing me n period tick s }
+// Crashes a head at a tick.
+#[tactic(auto, unfolding(crate::specs::Operations::crashing))]
+pub fn crash(station: &mut Station, seat: Seat, tick: u32) -> Result<(), Refusal>
+    ensures { done result station.new ≡ crashing seat.me seat.n seat.period tick station.old }
 {
-    if !fits::fit_crash(me, n, period, tick, s) {
-        return refused(Answer::Unfit, s);
+    if !fits::fit_crash(seat, tick, station) {
+        return Err(Refusal::Unfit);
     }
-    accepted(false, station::rules::crash(s))
+    station.crash();
+    Ok(())
 }
 
-// Has head me of n hear LEADER from q, with the stamp z, in a tick.
-pub fn hear(me: u8, n: u8, period: u32, tick: u32, q: u8, z: u32, s: Station) -> Outcome
-    ensures { said result ≡ hearing me n period tick q z s }
+// Has a head hear LEADER from another, with its stamp, in a tick.
+#[tactic(auto, using(crate::proofs::Safe::hear_safe), unfolding(crate::specs::Operations::hearing))]
+pub fn hear(
+    station: &mut Station,
+    seat: Seat,
+    tick: u32,
+    from: u8,
+    stamp: u32,
+) -> Result<(), Refusal>
+    ensures { done result station.new ≡ hearing seat.me seat.n seat.period tick from stamp station.old }
 {
-    if !fits::fit_hear(me, n, period, tick, q, z, s) {
-        return refused(Answer::Unfit, s);
+    if !fits::fit_hear(seat, tick, from, stamp, station) {
+        return Err(Refusal::Unfit);
     }
-    accepted(false, rules::hear(me, q, z, tick, s))
+    rules::hear(station, seat.me, from, stamp, tick);
+    Ok(())
 }
 
-// Ends the timer of head me of n in a tick.
-pub fn expire(me: u8, n: u8, period: u32, tick: u32, s: Station) -> Outcome
-    ensures { said result ≡ expiring me n period tick s }
+// Ends a head's timer in a tick.
+#[tactic(auto, using(crate::proofs::Safe::expire_safe), unfolding(crate::specs::Operations::expiring))]
+pub fn expire(station: &mut Station, seat: Seat, tick: u32) -> Result<(), Refusal>
+    ensures { done result station.new ≡ expiring seat.me seat.n seat.period tick station.old }
 {
-    if !fits::fit_expire(me, n, period, tick, s) {
-        return refused(Answer::Unfit, s);
+    if !fits::fit_expire(seat, tick, station) {
+        return Err(Refusal::Unfit);
     }
-    accepted(false, rules::expire(me, s))
+    rules::expire(station, seat.me);
+    Ok(())
 }
 
-// Gives head me of n its send chance in a tick.
-pub fn slot(me: u8, n: u8, period: u32, tick: u32, s: Station) -> Outcome
-    ensures { said result ≡ slotting me n period tick s }
+// Gives a head its send chance in a tick, and answers whether LEADER is sent.
+#[tactic(auto, using(crate::proofs::Safe::slot_safe), unfolding(crate::specs::Operations::slotting))]
+pub fn slot(station: &mut Station, seat: Seat, tick: u32) -> Result<bool, Refusal>
+    ensures { sent result station.new ≡ slotting seat.me seat.n seat.period tick station.old }
 {
-    if !fits::fit_slot(me, n, period, tick, s) {
-        return refused(Answer::Unfit, s);
+    if !fits::fit_slot(seat, tick, station) {
+        return Err(Refusal::Unfit);
     }
-    accepted(rules::sends(me, s), rules::slot(me, period, tick, s))
+    let sends = rules::sends(seat.me, station);
+    rules::slot(station, seat.me, seat.period, tick);
+    Ok(sends)
 }

@@ -1,126 +1,123 @@
 // The rules of a head with a running clock, for stations that fit. Each operation of the crate's root tests that its station fits and then
-// applies the rule of the same name, so what a rule requires can be met. A crash is station::rules::crash.
+// applies the rule of the same name, so what a rule requires can be met. A crash is that of station::Station.
 ghost use Rattle.std.specs.Prelude.{◌≡◌, cond, ◌≤◌, leb, ltb, eqb};
 ghost use Rattle.station.specs.Limits.{last_tick, longest};
 ghost use Rattle.clock.specs.Rules.{started, adopts, heard, expired, waited, slotted, sends, carried};
 
 use station::Station;
 
-// The station after a start.
-pub fn start(period: u32, tick: u32, s: Station) -> Station
+// Starts a station.
+#[tactic(auto, unfolding(crate::specs::Rules::started))]
+pub fn start(station: &mut Station, period: u32, tick: u32)
     requires { (period ≤ 255) × (tick ≤ last_tick) }
-    ensures { result ≡ started period tick s }
+    ensures { station.new ≡ started period tick station.old }
 {
     let now = period + tick;
-    Station {
-        incarnation: s.incarnation,
-        stable: s.stable,
+    *station = Station {
         up: true,
         leader: 0,
         timer: 0,
         slot: tick + now,
         recovering: true,
-        recovered: [0u16; 8],
-        timeouts: [0u32; 8],
+        recovered: [0; 8],
+        timeouts: [0; 8],
         stamp: now,
         lowest: now,
         timeout: now,
+        ..*station
+    };
+}
+
+// Whether a sender is not after the leader, or, where there is none, before the station itself.
+fn not_after(me: u8, from: u8, leader: u8) -> bool
+    ensures { result ≡ cond (eqb leader 0) (ltb from me) (leb from leader) }
+{
+    match leader {
+        0 => from < me,
+        _ => from <= leader,
     }
 }
 
-// Whether q is not after the leader, or, where there is none, before the station itself.
-fn not_after(me: u8, q: u8, leader: u8) -> bool
-    ensures { result ≡ cond (eqb leader 0) (ltb q me) (leb q leader) }
+// Whether a stamp is adopted.
+#[tactic(auto, unfolding(crate::specs::Rules::adopts))]
+fn adopts(me: u8, from: u8, stamp: u32, station: &Station) -> bool
+    ensures { result ≡ adopts me from stamp station.now }
 {
-    if leader == 0 { q < me } else { q <= leader }
+    stamp < station.lowest || stamp == station.lowest && not_after(me, from, station.leader)
 }
 
-// Whether a stamp z of q is adopted.
-fn adopts(me: u8, q: u8, z: u32, s: Station) -> bool
-    ensures { result ≡ adopts me q z s }
+// Hears LEADER from a station, with its stamp.
+#[tactic(auto, unfolding(crate::specs::Rules::heard))]
+pub fn hear(station: &mut Station, me: u8, from: u8, stamp: u32, tick: u32)
+    requires { (tick ≤ last_tick) × (station.old.timeout ≤ longest last_tick) }
+    ensures { station.new ≡ heard me from stamp tick station.old }
 {
-    (z < s.lowest) | ((z == s.lowest) & not_after(me, q, s.leader))
-}
-
-// The station after hearing LEADER from q with the stamp z.
-pub fn hear(me: u8, q: u8, z: u32, tick: u32, s: Station) -> Station
-    requires { (tick ≤ last_tick) × (s.timeout ≤ longest last_tick) }
-    ensures { result ≡ heard me q z tick s }
-{
-    let mut r = s;
-    if adopts(me, q, z, s) {
-        r.leader = q;
-        r.timer = tick + s.timeout;
-        r.lowest = z;
-        return r;
+    if adopts(me, from, stamp, station) {
+        station.leader = from;
+        station.timer = tick + station.timeout;
+        station.lowest = stamp;
     }
-    r
 }
 
-// The station after its timer's end.
-pub fn expire(me: u8, s: Station) -> Station
-    requires { s.timeout ≤ longest last_tick }
-    ensures { result ≡ expired me s }
+// Ends its timer.
+#[tactic(auto, unfolding(crate::specs::Rules::expired))]
+pub fn expire(station: &mut Station, me: u8)
+    requires { station.old.timeout ≤ longest last_tick }
+    ensures { station.new ≡ expired me station.old }
 {
-    let mut r = s;
-    r.leader = me;
-    r.timer = 0;
-    r.lowest = s.stamp;
-    r.timeout = s.timeout + 1;
-    r
+    station.leader = me;
+    station.timer = 0;
+    station.lowest = station.stamp;
+    station.timeout += 1;
 }
 
-// The station at the end of its wait.
-fn wait(me: u8, tick: u32, s: Station) -> Station
-    requires { (tick ≤ last_tick) × (s.timeout ≤ longest last_tick) }
-    ensures { result ≡ waited me tick s }
+// Has it trust itself or reset its timer, at the end of its wait.
+#[tactic(auto, unfolding(crate::specs::Rules::waited))]
+fn wait(station: &mut Station, me: u8, tick: u32)
+    requires { (tick ≤ last_tick) × (station.old.timeout ≤ longest last_tick) }
+    ensures { station.new ≡ waited me tick station.old }
 {
-    let mut r = s;
-    if s.leader == 0 {
-        r.leader = me;
-        r.timer = 0;
-        return r;
+    match station.leader {
+        0 => {
+            station.leader = me;
+            station.timer = 0;
+        }
+        leader if leader == me => {}
+        _ => station.timer = tick + station.timeout,
     }
-    if s.leader == me {
-        return r;
+}
+
+// Ends its wait, where it is still on.
+fn past_wait(station: &mut Station, me: u8, tick: u32)
+    requires { (tick ≤ last_tick) × (station.old.timeout ≤ longest last_tick) }
+    ensures { station.new ≡ cond station.old.recovering (waited me tick station.old) station.old }
+{
+    if station.recovering {
+        wait(station, me, tick);
     }
-    let end = tick + s.timeout;
-    r.timer = end;
-    r
 }
 
-// The station past its wait: a wait that is still on ends.
-fn past_wait(me: u8, tick: u32, s: Station) -> Station
-    requires { (tick ≤ last_tick) × (s.timeout ≤ longest last_tick) }
-    ensures { result ≡ cond s.recovering (waited me tick s) s }
+// Gives it a send chance.
+pub fn slot(station: &mut Station, me: u8, period: u32, tick: u32)
+    requires { (period ≤ 255) × (tick ≤ last_tick) × (station.old.timeout ≤ longest last_tick) }
+    ensures { station.new ≡ slotted me period tick station.old }
 {
-    if s.recovering {
-        return wait(me, tick, s);
-    }
-    s
+    past_wait(station, me, tick);
+    station.slot = tick + period;
+    station.recovering = false;
 }
 
-// The station after a send chance.
-pub fn slot(me: u8, period: u32, tick: u32, s: Station) -> Station
-    requires { (period ≤ 255) × (tick ≤ last_tick) × (s.timeout ≤ longest last_tick) }
-    ensures { result ≡ slotted me period tick s }
+// Whether it sends LEADER at a send chance.
+#[tactic(auto, unfolding(crate::specs::Rules::sends))]
+pub fn sends(me: u8, station: &Station) -> bool
+    ensures { result ≡ sends me station.now }
 {
-    let mut r = past_wait(me, tick, s);
-    r.slot = tick + period;
-    r.recovering = false;
-    r
-}
-
-// Whether the station sends LEADER at a send chance.
-pub fn sends(me: u8, s: Station) -> bool
-    ensures { result ≡ sends me s }
-{
-    (s.leader == me) | (s.recovering & (s.leader == 0))
+    station.leader == me || station.recovering && station.leader == 0
 }
 
 // The stamp that LEADER carries.
-pub fn carried(s: Station) -> u32
-    ensures { result ≡ carried s }
+pub fn carried(station: &Station) -> u32
+    ensures { result ≡ carried station.now }
 {
-    s.stamp
+    station.stamp
 }

@@ -1,11 +1,13 @@
 -- What is decided of a command, as the definitions have it.
-use Rattle.std.specs.Prelude.{◌≡◌, List, Bool, cond, ℕ, ◌≤◌, get_or, eqb}
-use Rattle.station.specs.declared.Station.{Station}
-use Rattle.election.specs.Commands.{Command, SetUp, Start, Crash, Link, Run, Lose, Report, Rank, none_started, number_of}
-use Rattle.election.specs.System.{station}
+use Rattle.std.specs.Prelude.{◌≡◌, Result, Ok, Err, true, cond, ℕ, ◌≤◌, eqb, ⊤}
+use Rattle.lists.specs.First.{first_failed}
+use Rattle.election.specs.Commands.{Command, SetUp, Start, Crash, Link, Run, Lose, Report, Rank, none_started, number_of, tests}
+use Rattle.election.specs.System.{station, station_of}
+use Rattle.election.specs.declared.Refusal.{Refusal}
 use Rattle.election.specs.declared.System.{System}
-use Rattle.decision.specs.declared.Decision.{Decision}
-use Rattle.decision.specs.declared.Decision.TheVariants as code
+use Rattle.decision.specs.declared.Command as declared
+use Rattle.decision.specs.declared.Command.TheVariants as code
+use Rattle.decision.specs.declared.Seen.{Seen}
 
 -- turned down with a number, or taken
 pub data Decided : Type 0 where
@@ -16,22 +18,48 @@ pub data Decided : Type 0 where
 abbrev pub decided : ℕ → Command → Decided
 decided refusal c = cond (eqb refusal 0) (Taken c) (Turned refusal)
 
--- what the code's decision says of a system: a rank is taken if no station was ever started, which is still to be tested
-abbrev pub meaning : System → Decision → Decided
-meaning s (code.Refused why) = Turned (number_of why)
-meaning s (code.SetUp clock n period) = Taken (SetUp clock n period)
-meaning s (code.Start p) = Taken (Start p)
-meaning s (code.Crash p) = Taken (Crash p)
-meaning s (code.Link p q d) = Taken (Link p q d)
-meaning s (code.Run t) = Taken (Run t)
-meaning s (code.Lose p q) = Taken (Lose p q)
-meaning s code.Report = Taken Report
-meaning s (code.Rank p r) = cond (none_started s.stations) (Taken (Rank p r)) (Turned 23)
+-- the command of the code's
+abbrev pub command_of : declared.Command → Command
+command_of (code.SetUp clock n period) = SetUp clock n period
+command_of (code.Start p) = Start p
+command_of (code.Crash p) = Crash p
+command_of (code.Link p q d) = Link p q d
+command_of (code.Run t) = Run t
+command_of (code.Lose p q) = Lose p q
+command_of code.Report = Report
+command_of (code.Rank p r) = Rank p r
 
--- the values that a decision needs are those of a system: the station is the one that the first operand names
-pub record Sees (s : System) (ready clock : Bool) (n tick : ℕ) (x : Station) (bytes : List ℕ) : Type 0 where
-  pub is-ready : s.ready ≡ ready
-  pub is-clock : s.clock ≡ clock
-  pub is-n : s.n ≡ n
-  pub is-tick : s.tick ≡ tick
-  pub is-named : get_or bytes 1 0 ≤ 8 → station s (get_or bytes 1 0) ≡ x
+-- what the code's decision says
+abbrev pub meaning : Result declared.Command Refusal → Decided
+meaning (Ok c) = Taken (command_of c)
+meaning (Err why) = Turned (number_of why)
+
+-- the values that are seen are the system's
+pub record Values (s : System) (seen : Seen) : Type 0 where
+  pub is-ready : s.ready ≡ seen.ready
+  pub is-clock : s.clock ≡ seen.clock
+  pub is-n : s.n ≡ seen.n
+  pub is-tick : s.tick ≡ seen.tick
+
+-- so are the stations, as far as a command looks: at the one that it names, a rank at whether one was ever started, else at none
+abbrev pub Looks : System → Seen → Command → Type 0
+Looks s seen (Start p) = p ≤ 8 → station s p ≡ station_of seen.stations.now p
+Looks s seen (Crash p) = p ≤ 8 → station s p ≡ station_of seen.stations.now p
+Looks s seen (Rank p r) = none_started s.stations ≡ none_started seen.stations.now
+Looks s seen _ = ⊤
+
+-- what is seen is of the system, as far as the command looks
+abbrev pub Sees : System → Seen → Command → Type 0
+Sees s seen c = Values s seen × Looks s seen c
+
+-- what is seen is of the system, all of it
+abbrev pub SeesAll : System → Seen → Type 0
+SeesAll s seen = Values s seen × (s.stations ≡ seen.stations.now)
+
+-- it is not set up, or has at most eight stations
+abbrev pub Few : Seen → Type 0
+Few seen = seen.ready ≡ true → seen.n ≤ 8
+
+-- what is decided of a command, of every system of which this is seen
+abbrev pub Decides : Seen → Command → Result declared.Command Refusal → Type 0
+Decides seen c d = (s : System) → Sees s seen c → Few seen → meaning d ≡ decided (first_failed (tests s c)) c

@@ -15,7 +15,7 @@ use Rattle.desk.specs.Said.{most_text, Unread, reading, Saying, Says}
 use Rattle.desk.specs.Spoken.{SpaceFor}
 use Rattle.desk.specs.Wording.{long_text}
 use Rattle.desk.specs.declared.asked.Mode.{Mode}
-use Rattle.desk.specs.declared.asked.Mode.TheVariants.{Rehearse, Bytes, Text, Figure, Nothing}
+use Rattle.desk.specs.declared.asked.Mode.TheVariants.{Rehearse, Bytes, Text, Figure}
 
 long_reading : (given : List ℕ) → most_text < length given → reading given ≡ Unread long_text
 unfolding reading
@@ -41,14 +41,12 @@ module _ (given : List ℕ) (size : ℕ) (cut : size < length given) where
   cut_off Bytes h s e = e ∙ rw (same-reading h)
   cut_off Text h s e = e ∙ rw (same-shown h)
   cut_off (Figure d) h s e = rw (is-long h) (rw (same-reading h ∙ is-long h) at e)
-  cut_off Nothing h s e = e
 
 larger : (m : Mode) (room size : ℕ) → room ≤ size → SpaceFor m room → SpaceFor m size
 larger Rehearse room size l h = omega arith
 larger Bytes room size l h = omega arith
 larger Text room size l h = omega arith
 larger (Figure d) room size l h = omega arith
-larger Nothing room size l h = tt
 
 pub enough : Enough
 enough m given got size room space whole all s says = by (dec_le (length given) size) (dec_lt size room)

@@ -8,7 +8,7 @@ use lib.IntN.{pos}
 use lib.ListN.{length, take}
 use Rattle.election.specs.Commands.{number_of}
 use Rattle.election.specs.Schedule.{End, schedule, said}
-use Rattle.election.specs.declared.Ended.TheVariants.{Whole, Stopped}
+use Rattle.std.specs.Prelude.{Ok, Err}
 use Rattle.election.specs.declared.Refusal.{Refusal}
 use Rattle.election.specs.declared.Scheduled.{Scheduled}
 use Rattle.election.proofs.Ending.{offset-inside}
@@ -24,7 +24,7 @@ use Rattle.desk.specs.declared.asked.Mode.TheVariants as mode
 
 module _ (given bytes : List ℕ) (r : Scheduled) (e : said r ≡ schedule bytes) where
   -- refused at a byte
-  module _ (at : ℕ) (why : Refusal) (h : r.ended ≡ Stopped at why) where
+  module _ (at : ℕ) (why : Refusal) (h : r.ended ≡ Err (record { at = at; refusal = why })) where
     refusal_is : (schedule bytes).refusal ≡ number_of why
     refusal_is = sym (ap (λ (x : End). x.refusal) e) ∙ rw h
 
@@ -38,7 +38,7 @@ module _ (given bytes : List ℕ) (r : Scheduled) (e : said r ≡ schedule bytes
     says-refused d f w = rw f (inl (λ z. numbered why (sym refusal_is ∙ z), rw (refusal_is, offset-is) (ap on_error (wrote_front w))))
 
   -- accepted
-  pub says-figure : (k : ℕ) → r.ended ≡ Whole k → (d : ℕ) → reading given ≡ Read bytes → (f : Figures) → Figured r.system f → {old line : List ℕ} {n : ℕ} → Wrote (figure d r.system f) old n line → Says (mode.Figure d) given (record { out = pos 1; text = take n line })
+  pub says-figure : (k : ℕ) → r.ended ≡ Ok k → (d : ℕ) → reading given ≡ Read bytes → (f : Figures) → Figured r.system f → {old line : List ℕ} {n : ℕ} → Wrote (figure d r.system f) old n line → Says (mode.Figure d) given (record { out = pos 1; text = take n line })
   says-figure k h d g f q w =
       let zero_is : (schedule bytes).refusal ≡ 0 = sym (ap (λ (x : End). x.refusal) e) ∙ rw h in
       let system-is : (schedule bytes).system ≡ r.system = sym (ap (λ (x : End). x.system) e) in

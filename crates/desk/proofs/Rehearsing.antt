@@ -1,29 +1,26 @@
 -- Laws of a rehearsal: how it ended is said after its listings.
-use mathlib.Core.Path.{◌≡◌, refl}
+use mathlib.Core.Path.{◌≡◌, refl, sym, subst, ◌∙◌}
 use mathlib.Core.List.{List, ◌++◌}
-use mathlib.Core.Bool.{Bool, true, false, not}
-use Prim.Native.Nat.{ℕ, ◌+◌, ◌<◌, ◌≤◌, ◌^◌}
+use Prim.Native.Nat.{ℕ, ◌+◌, ◌≤◌}
 use native.Mathlib.Omega.{arith}
-use borrow.Author.Tests.{not-false}
-use lib.IntN.{pos}
 use Rattle.std.proofs.Common.{Option}
-use lib.ListN.{length, take}
-use lib.Seq.{length-take-le}
-use Rattle.calls.specs.Calls.{Taken}
-use Rattle.calls.specs.Next.{ComesNext}
+use Rattle.std.specs.Prelude.{Result, Ok, Err}
+use Rattle.std.proofs.KnownBytes.{Appends-trans}
 use Rattle.std.specs.Io.KnownBytes.{Appends}
+use lib.IntN.{pos}
+use lib.ListN.{length, take}
+use Rattle.calls.specs.Moved.{CutAt, TakenTo}
+use Rattle.calls.specs.declared.Cut.{Cut}
 use Rattle.calls.proofs.Going.{goes_output}
-use Rattle.calls.proofs.Left.{Left, last-next, last_taken}
-use Rattle.election.specs.Schedule.{schedule}
+use Rattle.calls.proofs.Taken.{cut_first, cut_rest}
+use Rattle.election.specs.Schedule.{schedule, refusal_of, offset_of}
 use Rattle.election.proofs.Ending.{offset-inside}
 use Rattle.text.specs.Wrote.{Wrote}
-use Rattle.text.proofs.Parts.{wrote_front, wrote_inside}
-use Rattle.simulator.specs.Gone.{refusal_of}
+use Rattle.text.proofs.Parts.{wrote_front}
 use Rattle.printing.specs.Listings.{listings, Printed}
 use Rattle.printing.specs.declared.rules.Listed.{Listed}
-use Rattle.printing.proofs.After.{last-left, not_all, front_taken}
 use Rattle.desk.specs.Said.{Read, Unread, reading, rehearsed, Says}
-use Rattle.desk.specs.Spoken.{Spoken, SpokenTo}
+use Rattle.desk.specs.Spoken.{SpokenTo}
 use Rattle.desk.specs.Wording.{ending}
 use Rattle.desk.specs.declared.asked.Mode.TheVariants as mode
 
@@ -32,43 +29,31 @@ module _ (given bytes : List ℕ) where
   unfolding rehearsed
   in_two = refl
 
-  module _ {r : Listed} {put : Option ℕ} {done : ℕ} (p : Printed r bytes put done) where
-    -- where some of the listings are left, some of all is
-    pub some_left : not r.whole ≡ true → Taken false put done (length (rehearsed given bytes))
-    some_left = not_all (rehearsed given bytes) bytes (ending (schedule bytes).refusal given (schedule bytes).offset bytes) in_two p
+  -- a front of the listings is a front of all
+  pub listings_part : (n : ℕ) (Holds : List ℕ → Type 0) → CutAt n (listings bytes) Holds → CutAt n (rehearsed given bytes) Holds
+  listings_part n Holds t = rw in_two (cut_first n (listings bytes) (ending (schedule bytes).refusal given (schedule bytes).offset bytes) Holds t)
 
-    -- what was taken of the listings is a front of all
-    pub listings_front : take done (listings bytes) ≡ take done (rehearsed given bytes)
-    listings_front = front_taken (rehearsed given bytes) bytes (ending (schedule bytes).refusal given (schedule bytes).offset bytes) in_two p
+  module _ {listed : Listed} (e : Printed listed bytes) where
+    pub place_inside : offset_of listed.ended ≤ length bytes
+    place_inside = omega (arith, e.place, offset-inside bytes)
 
-    module _ (h : not r.whole ≡ false) where
-      pub place_inside : r.at ≤ length bytes
-      place_inside = omega (arith, p.place (not-false _ h), offset-inside bytes)
+    -- all of the listings, and then how it ended or a front of it
+    module _ {old new : List ℕ} {size : ℕ} (w : Wrote (ending (refusal_of listed.ended) given (offset_of listed.ended) bytes) old size new) (a b c : Option (List ℕ)) (first : Appends a b (listings bytes)) where
+      all_rehearsed : rehearsed given bytes ≡ listings bytes ++ take size new
+      all_rehearsed = in_two ∙ rw (wrote_front w, e.refusal, e.place)
 
-      left-ending : Left (rehearsed given bytes) done (ending (refusal_of r.stop) given r.at bytes)
-      left-ending = rw (p.refusal (not-false _ h), p.place (not-false _ h)) (last-left (rehearsed given bytes) bytes (ending (schedule bytes).refusal given (schedule bytes).offset bytes) in_two p h)
+      pub ending_taken : Appends b c (take size new) → Appends a c (rehearsed given bytes)
+      ending_taken t = subst (Appends a c) (sym all_rehearsed) (Appends-trans a b c (listings bytes) (take size new) first t)
 
-      module _ {old new : List ℕ} {size : ℕ} (w : Wrote (ending (refusal_of r.stop) given r.at bytes) old size new) where
-        left-written : Left (rehearsed given bytes) done (take size new)
-        left-written = rw (wrote_front w) left-ending
-
-        pub ending-next : ComesNext (rehearsed given bytes) done (take size new)
-        ending-next = last-next (take size new) left-written
-
-        pub ending-taken : (b : Bool) (put : Option ℕ) (now : ℕ) → Taken b put now (done + length (take size new)) → Taken b put now (length (rehearsed given bytes))
-        ending-taken = last_taken (take size new) left-written
-
-        pub ending-counted : 4096 ≡ length old → length new ≡ length old → done + length (take size new) < 2 ^ 64
-        ending-counted room same = omega (arith, p.few, wrote_inside w, length-take-le size new (wrote_inside w))
+      pub ending_cut : (n : ℕ) → CutAt n (take size new) (Appends b c) → CutAt (listed.size + n) (rehearsed given bytes) (Appends a c)
+      ending_cut n t = subst (λ l. CutAt (listed.size + n) l (Appends a c)) (sym all_rehearsed) (cut_rest a b c (listings bytes) (take size new) listed.size n e.size first t)
 
 -- what is said of a text
-pub spoken_rehearsal : (given bytes : List ℕ) → reading given ≡ Read bytes → (b : Bool) (put : Option ℕ) (done : ℕ) → Taken b put done (length (rehearsed given bytes)) → Spoken mode.Rehearse given b put done
-spoken_rehearsal given bytes e b put done t = record { saying = record { out = pos 1; text = rehearsed given bytes }; says = rw e; taken = t }
-
-pub rehearsal_to : (given bytes : List ℕ) → reading given ≡ Read bytes → (b : Bool) (put : Option ℕ) (done : ℕ) (out out' err : Option (List ℕ)) → Taken b put done (length (rehearsed given bytes))
-    → Appends out out' (take done (rehearsed given bytes)) → SpokenTo mode.Rehearse given b put done out out' err err
-unfolding spoken_rehearsal rehearsed
-rehearsal_to given bytes e b put done out out' err t a = record { spoken = spoken_rehearsal given bytes e b put done t; goes = goes_output out out' err _ a }
+pub rehearsal_to : (given bytes : List ℕ) → reading given ≡ Read bytes → {T : Type 0} (r : Result T Cut) (out out' err : Option (List ℕ)) → TakenTo r (rehearsed given bytes) (Appends out out') → SpokenTo mode.Rehearse given r out out' err err
+unfolding rehearsed
+rehearsal_to given bytes e (Ok x) out out' err t = record { saying = record { out = pos 1; text = rehearsed given bytes }; says = rw e; taken = goes_output out out' err (rehearsed given bytes) t }
+rehearsal_to given bytes e (Err cut) out out' err t =
+    record { saying = record { out = pos 1; text = rehearsed given bytes }; says = rw e; taken = (cut.at, t.0, goes_output out out' err (take cut.at (rehearsed given bytes)) t.1) }
 
 pub says-no_rehearsal : (given why : List ℕ) → reading given ≡ Unread why → Says mode.Rehearse given (record { out = pos 2; text = why })
 says-no_rehearsal given why e = rw e

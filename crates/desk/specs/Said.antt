@@ -1,5 +1,5 @@
 -- What is said for what was read, and where: on standard output, or on standard error where nothing is rehearsed, assembled, shown or told.
-use Rattle.std.specs.Prelude.{◌≡◌, ◌≢◌, ◌⊎◌, List, [], ◌++◌, cond, ℕ, ltb, ℤ, pos, length}
+use Rattle.std.specs.Prelude.{◌≡◌, ◌≢◌, ◌⊎◌, List, ◌++◌, cond, ℕ, ltb, ℤ, pos, length}
 use Rattle.election.specs.Schedule.{End, most_bytes, schedule}
 use Rattle.printing.specs.Listings.{listings}
 use Rattle.figures.specs.Figures.{Figured}
@@ -64,10 +64,9 @@ Figuring d given (Read bytes) s =
     ⊎ (((schedule bytes).refusal ≡ 0) × ((f : Figures) × Figured (schedule bytes).system f × (s ≡ on_output (figure d (schedule bytes).system f))))
 Figuring d given (Unread why) s = s ≡ on_error why
 
--- what is said in each mode; without one the program shows its usage and does not come here
+-- what is said in each mode
 abbrev pub Says : Mode → List ℕ → Saying → Type 0
 Says mode.Rehearse given s = s ≡ rehearsing given (reading given)
 Says mode.Bytes given s = s ≡ assembling (reading given)
 Says mode.Text given s = s ≡ showing (shown_text most_text given)
 Says (mode.Figure d) given s = Figuring d given (reading given) s
-Says mode.Nothing given s = s ≡ on_output []

@@ -1,60 +1,34 @@
 // A rehearsal: the listings of a text's schedule, and how it ended.
-ghost use Rattle.std.specs.Prelude.{◌≡◌, ◌+◌, ◌<◌, ◌≤◌, ◌^◌, length, take};
+ghost use Rattle.std.specs.Prelude.{◌≡◌, ◌≤◌, length};
 ghost use Rattle.std.specs.Io.KnownBytes.{Appends};
-ghost use Rattle.calls.specs.Calls.{Taken};
-ghost use Rattle.calls.specs.Next.{ComesNext, part};
+ghost use Rattle.calls.specs.Moved.{TakenTo};
 ghost use Rattle.election.specs.Schedule.{most_bytes};
 ghost use Rattle.desk.specs.Said.{rehearsed};
 ghost use Rattle.desk.specs.Spoken.{SpokenTo};
 ghost use Rattle.desk.specs.declared.asked.Mode.TheVariants as modes;
 
-use crate::asked::Mode;
-use crate::said::{Prepared, prepare, say};
+use crate::said::prepare;
 use crate::wording::put_ending;
-use calls::rules::streams::Stream;
-use calls::rules::write_text;
+use calls::streams::{Stream, write_to};
+use calls::{Cut, write_whole};
 use printing::rules::print_listings;
 use std::io::Write;
 
-// Says what comes next of a rehearsal, on standard output; answers whether all of it was taken.
-fn say_next<O: Write>(
-    out: &mut O,
-    given: &[u8],
-    bytes: &[u8],
-    text: &[u8],
-    done: &mut usize,
-    put: &mut Option<usize>,
-) -> bool
-    requires comes_next { ComesNext (rehearsed given.now bytes.now) done.old text.now }
-    requires text_bound { done.old + length text.now < 2 ^ 64 }
-    ensures taken { Taken result put.new done.new (done.old + length text.now) }
-    ensures counted { done.old ≤ done.new }
-    ensures bytes { Appends (O.contents out.old) (O.contents out.new) (part (rehearsed given.now bytes.now) done.old done.new) }
+// Rehearses the schedule of a text. Where a write fails, a front of that was printed, and the cut counts its bytes.
+fn rehearse<O: Write>(out: &mut O, given: &[u8], bytes: &[u8]) -> Result<(), Cut>
+    requires { length bytes.now ≤ most_bytes }
+    ensures { TakenTo result (rehearsed given.now bytes.now) (Appends (O.contents out.old) (O.contents out.new)) }
 {
-    write_text(out, text, done, put)
-}
-
-// Rehearses the schedule of a text.
-fn rehearse<O: Write>(
-    out: &mut O,
-    given: &[u8],
-    bytes: &[u8],
-    done: &mut usize,
-    put: &mut Option<usize>,
-) -> bool
-    requires bytes_len_bound { length bytes.now ≤ most_bytes }
-    requires done_value { done.old ≡ 0 }
-    ensures taken { Taken result put.new done.new (length (rehearsed given.now bytes.now)) }
-    ensures bytes { Appends (O.contents out.old) (O.contents out.new) (take done.new (rehearsed given.now bytes.now)) }
-{
-    let r = print_listings(out, bytes, done, put);
-    if !r.whole {
-        return false;
-    }
+    let listed = print_listings(out, bytes)?;
     let mut line = io::buffer();
-    let stop = r.stop;
-    let n = put_ending(stop, given, r.at, bytes, &mut line);
-    say_next(out, given, bytes, &line[..n], done, put)
+    let n = put_ending(listed.ended, given, bytes, &mut line);
+    if let Err(cut) = write_whole(out, &line[..n]) {
+        return Err(Cut {
+            at: listed.size + cut.at,
+            last: cut.last,
+        });
+    }
+    Ok(())
 }
 
 // Says the rehearsal of a text.
@@ -63,26 +37,15 @@ pub fn say_rehearsal<O: Write, E: Write>(
     err: &mut E,
     given: &[u8],
     bytes: &mut [u8],
-    done: &mut usize,
-    put: &mut Option<usize>,
-) -> bool
-    requires { (length bytes.old ≡ most_bytes) × (done.old ≡ 0) }
-    ensures { SpokenTo modes.Rehearse given.now result put.new done.new
+) -> Result<(), Cut>
+    requires { length bytes.old ≡ most_bytes }
+    ensures { SpokenTo modes.Rehearse given.now result
         (O.contents out.old) (O.contents out.new) (E.contents err.old) (E.contents err.new) }
 {
     let mut line = io::buffer();
     let r = prepare(given, bytes, &mut line);
     match r {
-        Prepared::Read(n) => rehearse(out, given, &bytes[..n], done, put),
-        Prepared::Unread(n) => say(
-            out,
-            err,
-            Mode::Rehearse,
-            given,
-            Stream::Error,
-            &line[..n],
-            done,
-            put,
-        ),
+        Ok(n) => rehearse(out, given, &bytes[..n]),
+        Err(n) => write_to(out, err, Stream::Error, &line[..n]),
     }
 }

@@ -1,5 +1,9 @@
 -- What a try-out shows: the claims of specs/Claims.antt.
 use mathlib.Core.Path.{◌≡◌, refl, sym, ap, subst, ◌∙◌}
+use Rattle.std.specs.Prelude as std
+use Rattle.std.specs.Prelude.{Ok, Err, Option}
+use Rattle.std.specs.Option.{option_or}
+use Rattle.std.specs.Result.{result_err, result_unwrap_or}
 use mathlib.Core.Logic.{◌≢◌, ◌⊎◌}
 use mathlib.Core.Logic.◌⊎◌.{inl, inr}
 use mathlib.Core.List.{List, [], ◌++◌}
@@ -18,9 +22,6 @@ use Rattle.election.specs.Commands.{refusal_of as number_in}
 use Rattle.election.specs.Commands.{Command, SetUp, Start, Crash, Link, Run, Lose, Report, Rank, Result, decode, ruling, refusal, perform, command, number_of, length_of}
 use Rattle.election.specs.Listing.{Listed, listing, listed}
 use Rattle.election.specs.Listing.{said as saidListing}
-use Rattle.election.specs.declared.Answer.{Answer}
-use Rattle.election.specs.declared.Answer.TheVariants as Answers
-use Rattle.election.specs.declared.Commanded.{Commanded}
 use Rattle.election.specs.declared.Refusal.{Refusal}
 use Rattle.election.specs.declared.Refusal.TheVariants.{NotSetUp}
 use Rattle.election.specs.Sound.{sound}
@@ -36,29 +37,29 @@ use Rattle.decision.proofs.Bytes.{unsound as unsound-command}
 use Rattle.decision.proofs.Decisions.{numbered}
 use Rattle.dryrun.specs.Claims.{SameSystem, AcceptedShows, CommandFirst, RefusedShows, ElseSixteen, NothingWritten, WithRoom}
 use Rattle.dryrun.specs.DryRun.{first_of, refusal_of, said, tried}
-use Rattle.dryrun.specs.declared.Attempt.{Attempt}
 
 -- the first refusal of two answers: of the command, else of the listing, else none
-pub of_command : (why : Refusal) (c l : Answer) → c ≡ Answers.Refused why → number_of why ≡ first_of (number_in c) (number_in l)
-of_command why c l e = rw (e, ne_eqb (number_of why) 0 (numbered why))
+first_refusal : (c l : std.Result ℕ Refusal) → refusal_of (option_or (result_err c) (result_err l)) ≡ first_of (number_in c) (number_in l)
+first_refusal (Ok size) (Ok long) = refl
+first_refusal (Ok size) (Err why) = refl
+first_refusal (Err why) l = rw (ne_eqb (number_of why) 0 (numbered why))
 
-pub of_listing : (why : Refusal) (size : ℕ) (c l : Answer) → c ≡ Answers.Done size → l ≡ Answers.Refused why → number_of why ≡ first_of (number_in c) (number_in l)
-of_listing why size c l e f = rw (e, f)
-
-pub of_none : (size long : ℕ) (c l : Answer) → c ≡ Answers.Done size → l ≡ Answers.Done long → 0 ≡ first_of (number_in c) (number_in l)
-of_none size long c l e f = rw (e, f)
+-- the length of an answer
+length_is : (l : std.Result ℕ Refusal) → result_unwrap_or l 0 ≡ length_of l
+length_is (Ok size) = refl
+length_is (Err why) = refl
 
 -- what the operations below answered makes up what is left
-pub left_by : (s : System) (bytes old new : List ℕ) (c : Commanded) (l : Answer) (a : Attempt) (size : ℕ)
-    → saidCommand c ≡ command s bytes → saidListing l new ≡ listed c.system old → refusal_of a ≡ first_of (number_in c.answer) (number_in l) → size ≡ length_of l
-    → said (record { attempt = a; written = size; system = s }) new ≡ tried s bytes old
+pub left_by : (s after : System) (bytes old new : List ℕ) (c l : std.Result ℕ Refusal) (first : Option Refusal) (size : ℕ)
+    → saidCommand c after ≡ command s bytes → saidListing l new ≡ listed after old → first ≡ option_or (result_err c) (result_err l) → size ≡ result_unwrap_or l 0
+    → said (record { refusal = first; written = size }) s new ≡ tried s bytes old
 unfolding tried
-left_by s bytes old new c l a size e f g h =
-    let after : listed c.system old ≡ listed (command s bytes).system old = ap (λ (r : Result). listed r.system old) e in
+left_by s after bytes old new c l first size e f g h =
+    let then : listed after old ≡ listed (command s bytes).system old = ap (λ (r : Result). listed r.system old) e in
     λ i. record {
-      refusal = (g ∙ (λ j. first_of (e j).refusal ((f ∙ after) j).refusal)) i;
-      written = (h ∙ ap (λ (x : Listed). x.written) (f ∙ after)) i;
-      buffer = (ap (λ (x : Listed). x.buffer) (f ∙ after)) i;
+      refusal = ((ap refusal_of g ∙ first_refusal c l) ∙ (λ j. first_of (e j).refusal ((f ∙ then) j).refusal)) i;
+      written = ((h ∙ length_is l) ∙ ap (λ (x : Listed). x.written) (f ∙ then)) i;
+      buffer = (ap (λ (x : Listed). x.buffer) (f ∙ then)) i;
       system = s;
     }
 
@@ -174,5 +175,5 @@ with_room s bytes buffer e room = go x.ready refl
         rw (shows x buffer ok r fits, r) (first-none (command s bytes).refusal, take_over (length (listing x)) (listing x) buffer refl)
     go false r =
         let ne : (command s bytes).refusal ≢ 0 = λ t. true≢false (sym (after-set_up s bytes t) ∙ ap (λ (y : System). y.ready) (sym (performed s bytes t)) ∙ r) in
-        let l : saidListing (Answers.Refused NotSetUp) buffer ≡ listed x buffer = not_set_up x buffer ok r in
+        let l : saidListing (Err NotSetUp) buffer ≡ listed x buffer = not_set_up x buffer ok r in
         rw (← l, r, ne_eqb (command s bytes).refusal 0 ne) (refl, refl)

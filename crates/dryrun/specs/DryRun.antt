@@ -1,11 +1,10 @@
 -- A try-out before pulling a plug (Paper 8 of document 02): one command done on a copy, and the listing after it.
-use Rattle.std.specs.Prelude.{List, cond, ℕ, eqb}
+use Rattle.std.specs.Prelude.{Option, Some, None, List, cond, ℕ, eqb}
 use Rattle.election.specs.Commands.{Result, command, number_of}
 use Rattle.election.specs.Listing.{Listed, listed}
+use Rattle.election.specs.declared.Refusal.{Refusal}
 use Rattle.election.specs.declared.System.{System}
-use Rattle.dryrun.specs.declared.Attempt.{Attempt}
-use Rattle.dryrun.specs.declared.Attempt.TheVariants.{Accepted, Refused}
-use Rattle.dryrun.specs.declared.Outcome.{Outcome}
+use Rattle.dryrun.specs.declared.Tried as declared
 
 -- what a try-out leaves: the refusal, 0 for none; the length written; the buffer; the original system
 pub record Tried : Type 0 where
@@ -25,11 +24,11 @@ tried s bytes buffer =
     let l : Listed = listed c.system buffer in
     record { refusal = first_of c.refusal l.refusal; written = l.written; buffer = l.buffer; system = s }
 
--- the papers' number of an attempt, 0 where it is accepted
-abbrev pub refusal_of : Attempt → ℕ
-refusal_of Accepted = 0
-refusal_of (Refused why) = number_of why
+-- the papers' number of a refusal, 0 where there is none
+abbrev pub refusal_of : Option Refusal → ℕ
+refusal_of None = 0
+refusal_of (Some why) = number_of why
 
--- an outcome, with the buffer as it is then
-abbrev pub said : Outcome → List ℕ → Tried
-said r buffer = record { refusal = refusal_of r.attempt; written = r.written; buffer = buffer; system = r.system }
+-- an answer, with the system and the buffer as they are then
+abbrev pub said : declared.Tried → System → List ℕ → Tried
+said r s buffer = record { refusal = refusal_of r.refusal; written = r.written; buffer = buffer; system = s }

@@ -2,65 +2,30 @@
 #![tactic(auto)]
 
 ghost use Rattle.std.specs.Prelude.{◌≡◌};
-ghost use Rattle.election.specs.Commands.{length_of};
-ghost use Rattle.election.specs.Commands.{refusal_of as number_in};
-ghost use Rattle.dryrun.specs.DryRun.{first_of, refusal_of, said, tried};
+ghost use Rattle.dryrun.specs.DryRun.{said, tried};
 
-use election::{Answer, Refusal, System};
+use election::{Refusal, System};
 use listing::listing;
 use simulator::command;
 
-// Whether the command is accepted and the listing after it is shown, or why one of them is turned down, the command first.
-#[derive(Clone, Copy)]
-pub enum Attempt {
-    Accepted,
-    Refused(Refusal),
-}
-
-// What a try-out answers: the attempt, how many bytes of a listing were written, and the system that was handed over, as it was. Both a
-// refusal and a length are answered where a refused command shows the listing as it was.
-#[derive(Clone, Copy)]
-pub struct Outcome {
-    pub attempt: Attempt,
+// What a try-out answers: the refusal of the command, else of the listing after it, if there is one; and how many bytes of a listing were
+// written. Both come together where a refused command shows the listing as it was.
+#[derive(Clone, Copy, Debug, PartialEq, Eq)]
+pub struct Tried {
+    pub refusal: Option<Refusal>,
     pub written: usize,
-    pub system: System,
 }
 
-// The command's refusal, else the listing's.
-fn first_refusal(command: Answer, listing: Answer) -> Attempt
-    ensures { refusal_of result ≡ first_of (number_in command) (number_in listing) }
+// Does the first command of the bytes on a copy of the system, and writes the listing after it into the front of the buffer. Answers the
+// first refusal and the length written.
+pub fn dry_run(s: &System, bytes: &[u8], buffer: &mut [u8]) -> Tried
+    ensures { said result s.now buffer.new ≡ tried s.now bytes.now buffer.old }
 {
-    match command {
-        Answer::Refused(why) => Attempt::Refused(why),
-        Answer::Done(_) => match listing {
-            Answer::Refused(why) => Attempt::Refused(why),
-            Answer::Done(_) => Attempt::Accepted,
-        },
-    }
-}
-
-// The length that is answered.
-fn length_of(answer: Answer) -> usize
-    ensures { result ≡ length_of answer }
-{
-    match answer {
-        Answer::Done(size) => size,
-        Answer::Refused(_) => 0,
-    }
-}
-
-// Does the first command of the bytes on a copy of the system, and writes the listing after it into the front of the buffer. Answers the first
-// refusal, the length written, and the system as it was.
-pub fn dry_run(s: System, bytes: &[u8], buffer: &mut [u8]) -> Outcome
-    ensures { said result buffer.new ≡ tried s bytes.now buffer.old }
-{
-    let done = command(s, bytes);
-    let answer = done.answer;
-    let copy = done.system;
-    let listed = listing(copy, buffer);
-    Outcome {
-        attempt: first_refusal(answer, listed),
-        written: length_of(listed),
-        system: s,
+    let mut copy = *s;
+    let done = command(&mut copy, bytes);
+    let listed = listing(&copy, buffer);
+    Tried {
+        refusal: done.err().or(listed.err()),
+        written: listed.unwrap_or(0),
     }
 }

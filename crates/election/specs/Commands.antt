@@ -1,5 +1,6 @@
 -- Commands of one byte, and what is turned down.
-use Rattle.std.specs.Prelude.{List, [], ◌∷◌, Bool, true, false, cond, not, ◌&&◌, ℕ, ◌+◌, ◌*◌, ◌<◌, length, get_or, leb, ltb, eqb}
+use Rattle.std.specs.Prelude as std
+use Rattle.std.specs.Prelude.{List, [], ◌∷◌, Bool, true, false, cond, not, ◌&&◌, ℕ, ◌+◌, ◌*◌, ◌<◌, Ok, Err, length, get_or, leb, ltb, eqb}
 use Rattle.lists.specs.Every.{All}
 use Rattle.lists.specs.First.{first_failed}
 use Rattle.lists.specs.Test.{all_to}
@@ -11,9 +12,6 @@ use Rattle.election.specs.Heads.{starting}
 use Rattle.election.specs.Sound.{sound}
 use Rattle.election.specs.System.{no_station, station, initial, with_station, with_delay, without_messages, with_rank}
 use Rattle.election.specs.Tick.{ticks}
-use Rattle.election.specs.declared.Answer.{Answer}
-use Rattle.election.specs.declared.Answer.TheVariants.{Done, Refused}
-use Rattle.election.specs.declared.Commanded.{Commanded}
 use Rattle.election.specs.declared.Refusal.{Refusal}
 use Rattle.election.specs.declared.Refusal.TheVariants.{UnknownCommand, MissingOperand, NotSetUp, SetUpTwice, StationsRange, PeriodRange, StationRange, StationUp, StationDown, WornOut, SameStation, NoTicks, PastLastTick, Unsound, BufferShort, ScheduleLong, RankRange, AlreadyStarted, ClockHeads}
 use Rattle.election.specs.declared.System.{System}
@@ -149,13 +147,14 @@ number_of AlreadyStarted = 23
 number_of ClockHeads = 25
 
 -- number and length of an answer
-abbrev pub refusal_of : Answer → ℕ
-refusal_of (Done size) = 0
-refusal_of (Refused r) = number_of r
+abbrev pub refusal_of : std.Result ℕ Refusal → ℕ
+refusal_of (Ok size) = 0
+refusal_of (Err r) = number_of r
 
-abbrev pub length_of : Answer → ℕ
-length_of (Done size) = size
-length_of (Refused r) = 0
+abbrev pub length_of : std.Result ℕ Refusal → ℕ
+length_of (Ok size) = size
+length_of (Err r) = 0
 
-abbrev pub said : Commanded → Result
-said r = record { refusal = refusal_of r.answer; length = length_of r.answer; system = r.system }
+-- an answer, with the system as it is then
+abbrev pub said : std.Result ℕ Refusal → System → Result
+said r s = record { refusal = refusal_of r; length = length_of r; system = s }

@@ -1,4 +1,5 @@
 -- The listing, and what the rehearsal program prints ("Frame and listing" of document 01, with Papers 2 and 6 of document 02), as bytes.
+use Rattle.std.specs.Prelude as std
 use Rattle.std.specs.Prelude.{List, [], ◌∷◌, ◌++◌, Bool, true, false, cond, not, ◌&&◌, ℕ, zero, suc, ◌+◌, length, get_or, drop, leb, ltb, eqb}
 use Rattle.lists.specs.Entries.{over}
 use Rattle.lists.specs.First.{first_failed}
@@ -12,7 +13,7 @@ use Rattle.election.specs.Commands.{Result, command, refusal_of, length_of}
 use Rattle.election.specs.Schedule.{End, most_bytes, schedule}
 use Rattle.election.specs.Sound.{sound}
 use Rattle.election.specs.System.{no_station, station_of, fresh}
-use Rattle.election.specs.declared.Answer.{Answer}
+use Rattle.election.specs.declared.Refusal.{Refusal}
 use Rattle.election.specs.declared.System.{System}
 use Rattle.election.specs.declared.Verdict.{Verdict}
 use Rattle.election.specs.declared.Verdict.TheVariants.{Dark, Agreed, AgreedDark, Split}
@@ -163,7 +164,7 @@ listed s buffer =
     }
 
 -- an answer, with the buffer as it is then
-abbrev pub said : Answer → List ℕ → Listed
+abbrev pub said : std.Result ℕ Refusal → List ℕ → Listed
 said answer buffer = record { refusal = refusal_of answer; written = length_of answer; buffer = buffer }
 
 -- the listing of an accepted report, and nothing for another command

@@ -1,10 +1,10 @@
 -- A schedule: commands in order from the fresh system, up to the first refusal.
-use Rattle.std.specs.Prelude.{List, [], ◌∷◌, true, false, cond, ℕ, zero, suc, ◌+◌, length, drop, ltb, eqb}
+use Rattle.std.specs.Prelude as std
+use Rattle.std.specs.Prelude.{List, [], ◌∷◌, true, false, cond, ℕ, zero, suc, ◌+◌, Ok, Err, length, drop, ltb, eqb}
 use Rattle.election.specs.Commands.{Result, command, number_of}
 use Rattle.election.specs.System.{fresh}
-use Rattle.election.specs.declared.Ended.{Ended}
-use Rattle.election.specs.declared.Ended.TheVariants.{Whole, Stopped}
 use Rattle.election.specs.declared.Scheduled.{Scheduled}
+use Rattle.election.specs.declared.Stopped.{Stopped}
 use Rattle.election.specs.declared.System.{System}
 
 -- where a schedule ended: the refusal, 0 for none; the offset, which is the schedule's length where nothing was refused; the system there
@@ -34,13 +34,13 @@ schedule bytes =
     cond (ltb most_bytes (length bytes)) (record { refusal = 21; offset = 0; system = fresh }) end
 
 -- number and offset of an answer
-abbrev pub refusal_of : Ended → ℕ
-refusal_of (Whole size) = 0
-refusal_of (Stopped at r) = number_of r
+abbrev pub refusal_of : std.Result ℕ Stopped → ℕ
+refusal_of (Ok size) = 0
+refusal_of (Err s) = number_of s.refusal
 
-abbrev pub offset_of : Ended → ℕ
-offset_of (Whole size) = size
-offset_of (Stopped at r) = at
+abbrev pub offset_of : std.Result ℕ Stopped → ℕ
+offset_of (Ok size) = size
+offset_of (Err s) = s.at
 
 abbrev pub said : Scheduled → End
 said r = record { refusal = refusal_of r.ended; offset = offset_of r.ended; system = r.system }

@@ -2,12 +2,28 @@
 // is a pointer.
 #![tactic(auto)]
 
-ghost use Rattle.std.specs.Prelude.{◌≡◌};
-ghost use Rattle.frame.specs.Writing.{Writing, writing};
+ghost use Rattle.std.specs.Prelude.{◌≡◌, List, ℕ};
+ghost use Rattle.frame.specs.Writing.{Writing, writing, said};
 ghost use Rattle.frame.specs.Reading.{Reading, reading};
 ghost use Rattle.frame.specs.Stamp.{StampReading, stamp_writing, stamp_reading};
 
-use frame::numbers::{length_of, read_refusal, sender_of, write_refusal};
+use frame::WriteError;
+
+// Stores the length written, 0 where nothing was, and answers the refusal, 0 for none.
+fn store_length(wrote: Result<usize, WriteError>, written: &mut usize) -> u64
+    ensures { (buffer : List ℕ) → record { refusal = result; written = written.new; buffer = buffer } ≡ said wrote buffer }
+{
+    match wrote {
+        Ok(size) => {
+            *written = size;
+            0
+        }
+        Err(why) => {
+            *written = 0;
+            u64::from(why.number())
+        }
+    }
+}
 
 // Writes the frame at the front of the buffer: answers the refusal, 0 for none, and stores the length written.
 #[unsafe(no_mangle)]
@@ -21,9 +37,7 @@ pub extern "C" fn leader_frame_write(
     ensures { ◌≡◌ {A = Writing} (record { refusal = result; written = written.new; buffer = buffer.new })
         (writing n sender counts.now buffer.old) }
 {
-    let answer = frame::write(n, sender, counts, buffer);
-    *written = length_of(answer);
-    write_refusal(answer)
+    store_length(frame::write(n, sender, counts, buffer), written)
 }
 
 // Reads the frame that the bytes are: answers the refusal, 0 for none, and stores the sender and eight counts.
@@ -37,12 +51,20 @@ pub extern "C" fn leader_frame_read(
     ensures { ◌≡◌ {A = Reading} (record { refusal = result; sender = sender.new; counts = counts.new })
         (reading n bytes.now) }
 {
-    let received = frame::read(n, bytes);
-    let answer = received.answer;
-    let read = received.counts;
-    *sender = sender_of(answer);
-    *counts = read;
-    read_refusal(answer)
+    match frame::read(n, bytes) {
+        Ok(leader) => {
+            // the prover has no proof yet for an array field that is stored straight
+            let read = leader.counts;
+            *sender = leader.sender;
+            *counts = read;
+            0
+        }
+        Err(why) => {
+            *sender = 0;
+            *counts = [0; 8];
+            u64::from(why.number())
+        }
+    }
 }
 
 // Writes the clock frame at the front of the buffer: answers the refusal, 0 for none, and stores the length written.
@@ -57,9 +79,7 @@ pub extern "C" fn clock_frame_write(
     ensures { ◌≡◌ {A = Writing} (record { refusal = result; written = written.new; buffer = buffer.new })
         (stamp_writing n sender stamp buffer.old) }
 {
-    let wrote = frame::stamp::write(n, sender, stamp, buffer);
-    *written = length_of(wrote);
-    write_refusal(wrote)
+    store_length(frame::stamp::write(n, sender, stamp, buffer), written)
 }
 
 // Reads the clock frame that the bytes are: answers the refusal, 0 for none, and stores the sender and the stamp.
@@ -68,10 +88,16 @@ pub extern "C" fn clock_frame_read(n: u8, bytes: &[u8], sender: &mut u8, stamp: 
     ensures { ◌≡◌ {A = StampReading} (record { refusal = result; sender = sender.new; stamp = stamp.new })
         (stamp_reading n bytes.now) }
 {
-    let stamped = frame::stamp::read(n, bytes);
-    let from = stamped.answer;
-    let read = stamped.stamp;
-    *sender = sender_of(from);
-    *stamp = read;
-    read_refusal(from)
+    match frame::stamp::read(n, bytes) {
+        Ok(read) => {
+            *sender = read.sender;
+            *stamp = read.stamp;
+            0
+        }
+        Err(why) => {
+            *sender = 0;
+            *stamp = 0;
+            u64::from(why.number())
+        }
+    }
 }

@@ -11,16 +11,12 @@ use lib.ListN.{length, get_or, get_or-eq_default}
 use borrow.Author.Tests.{eq-eqb, ne_eqb}
 use Rattle.lists.proofs.Count.{count_none}
 use Rattle.lists.proofs.Entries.{get_d_up_to, length-up_to}
-use Rattle.station.specs.Order.{entry, precedes}
+use Rattle.station.specs.Order.{entry}
 use Rattle.station.specs.declared.Station.{Station}
 use Rattle.station.proofs.Ordered.{total_holds, transitive_holds}
 use Rattle.election.specs.System.{no_station, station_of}
 use Rattle.figures.specs.Figures.{ahead_of, FirstOf, LeadsOf}
 use Rattle.figures.specs.Pieces.{up_over, counts_of, first_of}
-
--- of an up station and the first so far, by whether the station is before it
-pub first-chosen : (ranks v : List ℕ) (up : Bool) (p l : ℕ) (b : Bool) → up ≡ true → l ≢ 0 → precedes ranks v p l ≡ b → cond b p l ≡ first_of ranks v up p l
-first-chosen ranks v up p l b e ne h = rw (e, ne_eqb l 0 ne, h)
 
 -- the count of a station among the counts of all places
 counts-at : (stations : List Station) → length stations ≤ 8 → (p : ℕ) → entry (counts_of stations) p ≡ (station_of stations p).incarnation

@@ -5,4 +5,3 @@ pub mod Leading
 pub mod Loops
 pub mod Products
 pub mod Schedules
-pub mod Seats

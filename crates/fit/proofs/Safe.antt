@@ -15,8 +15,8 @@ use Rattle.fit.proofs.Tests.{fit-ranges}
 use Rattle.station.proofs.Vectors.{other-of}
 
 module _ (me n period tick : ℕ) (s : Station) where
-  pub start-safe : fit_start me n period tick s ≡ true → (1 ≤ me) × (me ≤ 8) × (period ≤ 255) × (tick ≤ last_tick)
-  start-safe e =
+  pub start_safe : fit_start me n period tick s ≡ true → (1 ≤ me) × (me ≤ 8) × (period ≤ 255) × (tick ≤ last_tick)
+  start_safe e =
       let (h, f) = start_of me n period tick s e in
       let (r, k) = fit-ranges me n period tick s f in
       (r.me_low, omega (arith, r.me_high, r.n-high), r.period-high, h)

@@ -3,11 +3,15 @@ use mathlib.Core.Path.{◌≡◌, refl, sym, ◌∙◌}
 use mathlib.Core.List.{List, [], ◌∷◌, ◌++◌, append_assoc}
 use Prim.Native.Nat.{ℕ, zero, suc, ◌+◌, ◌*◌, ◌/◌, ◌%◌, ◌<◌, ◌≤◌}
 use native.Mathlib.Numerals.{add-one}
+use native.Mathlib.Decide.{dec_lt}
 use native.Mathlib.Omega.{arith}
-use lib.ListN.{length, get_or, take, set, length-append}
+use mathlib.Core.Bool.{cond}
+use lib.Dec.{ltb}
+use borrow.Author.Tests.{lt-ltb, le-ltb}
+use lib.ListN.{length, get_or, take, set, replicate, length-append, get_or-replicate}
 use lib.Seq.{take-suc, length-take-le, ext_get_or}
 use Rattle.lists.specs.Entries.{up_to, over}
-use Rattle.lists.proofs.Entries.{length-up_to, get_d_up_to, over-snoc}
+use Rattle.lists.proofs.Entries.{length-up_to, get_d_up_to, length_over, over-snoc, over-front, over-beyond, take_over}
 use Rattle.frame.specs.Claims.{Octets}
 use Rattle.frame.specs.Frame.{body, frame, header, frame_size}
 use Rattle.frame.specs.Reading.{count_at, counts_of, sender_of, written_count}
@@ -63,6 +67,28 @@ pub length-counts_of : (n : ℕ) (bytes : List ℕ) → length (counts_of n byte
 unfolding counts_of
 length-counts_of n bytes = length-up_to n (count_at bytes)
 
+-- they stand in front of the zeros that fill them up to eight
+pub padded : (n : ℕ) (bytes : List ℕ) → n ≤ 8 → up_to 8 (λ k. cond (ltb k n) (count_at bytes k) 0) ≡ over (counts_of n bytes) (replicate 8 0)
+unfolding counts_of
+padded n bytes h =
+    ext_get_or 0 (up_to 8 each) (over (up_to n (count_at bytes)) (replicate 8 0))
+    (length-up_to 8 each ∙ sym (length_over (up_to n (count_at bytes)) (replicate 8 0) (omega (arith, length-up_to n (count_at bytes)))))
+    (λ i l. let below : i < 8 = omega (arith, length-up_to 8 each) in get_d_up_to 8 each i 0 below ∙ at i below (dec_lt i n))
+  where
+    each : ℕ → ℕ
+    each k = cond (ltb k n) (count_at bytes k) 0
+
+    at : (i : ℕ) → i < 8 → Dec (i < n) → each i ≡ get_or (over (up_to n (count_at bytes)) (replicate 8 0)) i 0
+    at i l (yes b) =
+        rw (lt-ltb i n b)
+        (sym (over-front (up_to n (count_at bytes)) (replicate 8 0) i 0 (omega (arith, length-up_to n (count_at bytes))) ∙ get_d_up_to n (count_at bytes) i 0 b))
+    at i l (no b) =
+        rw (le-ltb i n (omega arith))
+        (sym (over-beyond (up_to n (count_at bytes)) (replicate 8 0) i 0 (omega (arith, length-up_to n (count_at bytes))) ∙ get_or-replicate 8 i 0 0 l))
+
+pub take_counts : (n : ℕ) (bytes : List ℕ) → take n (over (counts_of n bytes) (replicate 8 0)) ≡ counts_of n bytes
+take_counts n bytes = take_over n (counts_of n bytes) (replicate 8 0) (length-counts_of n bytes)
+
 -- the counts of a frame are those that it was made of
 pub counts_of-frame : (n s : ℕ) (cs : List ℕ) → length cs ≡ n → counts_of n (frame n s cs) ≡ cs
 unfolding counts_of
@@ -88,3 +114,6 @@ frame-front (suc n) bytes o m h =
     let i : low + 1 ≡ suc low = omega arith in
     let j : frame_size (suc n) ≡ suc (suc low) = omega arith in
     rw (frame-snoc, e, f, frame-front n bytes o m (omega arith), j, take-suc bytes (suc low) 0 (omega arith), i, take-suc bytes low 0 (omega arith))
+
+-- the lengths of what is written and of what is read
+pub ruleset lengths = (length-frame, length-counts_of)

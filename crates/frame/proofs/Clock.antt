@@ -18,6 +18,8 @@ pub length-stamp_frame : (sender stamp : ℕ) → length (stamp_frame sender sta
 unfolding stamp_frame
 length-stamp_frame sender stamp = refl
 
+pub ruleset lengths = (length-stamp_frame)
+
 -- the four bytes of a stamp give it back
 pub stamp_of-frame : (sender stamp : ℕ) → stamp_of (stamp_frame sender stamp) ≡ stamp
 unfolding stamp_frame

@@ -21,14 +21,3 @@ module _ {A : Type 0} where
   over-three x y z f (a ∷ []) h = absurd (omega arith)
   over-three x y z f (a ∷ b ∷ []) h = absurd (omega arith)
   over-three x y z f (a ∷ b ∷ c ∷ l) h = refl
-
-  -- six entries that were stored at its front lie over it
-  pub six_over : (u v w x y z : A) (l : List A) → 6 ≤ length l → set (set (set (set (set (set l 0 u) 1 v) 2 w) 3 x) 4 y) 5 z ≡ over (u ∷ v ∷ w ∷ x ∷ y ∷ z ∷ []) l
-  unfolding over
-  six_over u v w x y z [] h = absurd (omega arith)
-  six_over u v w x y z (a ∷ []) h = absurd (omega arith)
-  six_over u v w x y z (a ∷ b ∷ []) h = absurd (omega arith)
-  six_over u v w x y z (a ∷ b ∷ c ∷ []) h = absurd (omega arith)
-  six_over u v w x y z (a ∷ b ∷ c ∷ d ∷ []) h = absurd (omega arith)
-  six_over u v w x y z (a ∷ b ∷ c ∷ d ∷ e ∷ []) h = absurd (omega arith)
-  six_over u v w x y z (a ∷ b ∷ c ∷ d ∷ e ∷ f ∷ l) h = refl

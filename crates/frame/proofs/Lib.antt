@@ -3,6 +3,7 @@ pub mod Accepted
 pub mod Body
 pub mod Clock
 pub mod ClockRestores
+pub mod Elements
 pub mod Example
 pub mod Front
 pub mod Lengths

@@ -2,15 +2,15 @@
 use mathlib.Core.Path.{◌≡◌}
 use mathlib.Core.Logic.{◌↔◌}
 use mathlib.Core.List.{List}
-use mathlib.Core.Bool.{Bool, true, false, ◌&&◌, and-eq-true_iff}
+use mathlib.Core.Bool.{Bool, true, ◌&&◌, and-eq-true_iff}
 use Prim.Native.Nat.{ℕ, ◌-◌, ◌≤◌, ◌<◌}
 use native.Mathlib.Decide.{dec_lt}
 use native.Mathlib.Omega.{arith}
 use lib.Dec.{leb}
 use lib.ListN.{length, get_or, get_or-eq_default}
-use borrow.Author.Tests.{leb-true, le-leb, lt-leb}
+use borrow.Author.Tests.{leb-true, le-leb}
 use Rattle.lists.specs.Test.{all_to}
-use Rattle.lists.proofs.Test.{all_at, all_of, all_not}
+use Rattle.lists.proofs.Test.{all_at, all_of}
 use Rattle.frame.specs.Frame.{stations_in, sender_in, counts_in}
 
 between : (low n high : ℕ) → ((leb low n && leb n high) ≡ true) ↔ ((low ≤ n) × (n ≤ high))
@@ -27,6 +27,21 @@ pub sender-range : (n sender : ℕ) → (sender_in n sender ≡ true) ↔ ((1 �
 unfolding sender_in
 sender-range n sender = between 1 sender n
 
+-- and one end of a range at a time, for a search
+pub stations_low : (n : ℕ) → stations_in n ≡ true → 2 ≤ n
+stations_low n e = ((stations-range n).0 e).0
+
+pub stations_high : (n : ℕ) → stations_in n ≡ true → n ≤ 8
+stations_high n e = ((stations-range n).0 e).1
+
+pub sender_low : (n sender : ℕ) → sender_in n sender ≡ true → 1 ≤ sender
+sender_low n sender e = ((sender-range n sender).0 e).0
+
+pub sender_high : (n sender : ℕ) → sender_in n sender ≡ true → sender ≤ n
+sender_high n sender e = ((sender-range n sender).0 e).1
+
+pub ruleset ranges = (stations_low, stations_high, sender_low, sender_high)
+
 pub counts-range : (sender : ℕ) (counts : List ℕ) → (counts_in sender counts ≡ true) ↔ (((k : ℕ) → get_or counts k 0 ≤ 4095) × (1 ≤ get_or counts (sender - 1) 0))
 unfolding counts_in
 counts-range sender counts = (
@@ -40,8 +55,3 @@ counts-range sender counts = (
     below : (k : ℕ) → Dec (k < length counts) → all_to (length counts) small ≡ true → get_or counts k 0 ≤ 4095
     below k (yes l) t = leb-true _ _ (all_at _ k small t l)
     below k (no l) t = omega (arith, get_or-eq_default counts 0 {n = k} (omega arith))
-
--- one count above 4095 is enough for the test to fail
-pub one_above : (sender : ℕ) (counts : List ℕ) (k : ℕ) → k < length counts → 4095 < get_or counts k 0 → counts_in sender counts ≡ false
-unfolding counts_in
-one_above sender counts k h g = rw (all_not (length counts) k (λ i. leb (get_or counts i 0) 4095) h (lt-leb _ _ g))

@@ -1,11 +1,11 @@
 -- Reading a frame ("Read frame" of document 01, with Paper 5 of document 02).
-use Rattle.std.specs.Prelude.{List, [], ◌∷◌, Bool, cond, ℕ, ◌+◌, ◌*◌, length, get_or, replicate, eqb}
+use Rattle.std.specs.Prelude.{List, [], ◌∷◌, Bool, cond, ℕ, ◌+◌, ◌*◌, length, get_or, replicate, eqb, Result, Ok, Err}
 use Rattle.lists.specs.Entries.{up_to, over}
 use Rattle.lists.specs.First.{first_failed}
 use Rattle.frame.specs.Frame.{header, frame_size, stations_in, sender_in, counts_in}
-use Rattle.frame.specs.declared.Received.{Received}
-use Rattle.frame.specs.declared.Receipt.{Receipt}
-use Rattle.frame.specs.declared.Receipt.TheVariants.{From, Stations, Length, Mark, Sender, Entry, Count}
+use Rattle.frame.specs.declared.Leader.{Leader}
+use Rattle.frame.specs.declared.ReadError.{ReadError}
+use Rattle.frame.specs.declared.ReadError.TheVariants.{Stations, Length, Mark, Count, Sender, Entry}
 
 -- the count of the station at place k, from 0: low byte, high byte
 abbrev pub count_at : List ℕ → ℕ → ℕ
@@ -52,24 +52,16 @@ reading n bytes =
       counts = cond (eqb r 0) (over (counts_of n bytes) (replicate 8 0)) (replicate 8 0);
     }
 
--- the papers' number and the sender for each answer
-abbrev pub refusal_of : Receipt → ℕ
-refusal_of (From sender) = 0
-refusal_of Stations = 5
-refusal_of Length = 17
-refusal_of Mark = 18
-refusal_of Sender = 19
-refusal_of Entry = 20
-refusal_of Count = 24
+-- the papers' number of a refusal
+abbrev pub number_of : ReadError → ℕ
+number_of Stations = 5
+number_of Length = 17
+number_of Mark = 18
+number_of Count = 24
+number_of Sender = 19
+number_of Entry = 20
 
-abbrev pub from_of : Receipt → ℕ
-from_of (From sender) = sender
-from_of Stations = 0
-from_of Length = 0
-from_of Mark = 0
-from_of Sender = 0
-from_of Entry = 0
-from_of Count = 0
-
-abbrev pub said : Received → Reading
-said r = record { refusal = refusal_of r.answer; sender = from_of r.answer; counts = r.counts }
+-- an answer: sender and counts, or the refusal and zeros
+abbrev pub said : Result Leader ReadError → Reading
+said (Ok leader) = record { refusal = 0; sender = leader.sender; counts = leader.counts }
+said (Err why) = record { refusal = number_of why; sender = 0; counts = replicate 8 0 }

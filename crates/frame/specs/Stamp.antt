@@ -1,11 +1,12 @@
 -- The clock frame (Paper 6 of document 02): 11 hex, the sender, four bytes of stamp, low byte first; writing one, and reading one.
-use Rattle.std.specs.Prelude.{List, [], ◌∷◌, Bool, cond, ℕ, ◌+◌, ◌*◌, ◌/◌, ◌%◌, length, get_or, leb, eqb}
+use Rattle.std.specs.Prelude.{List, [], ◌∷◌, Bool, cond, ℕ, ◌+◌, ◌*◌, ◌/◌, ◌%◌, length, get_or, leb, eqb, Result, Ok, Err}
 use Rattle.lists.specs.Entries.{over}
 use Rattle.lists.specs.First.{first_failed}
 use Rattle.frame.specs.Frame.{stations_in, sender_in}
-use Rattle.frame.specs.Reading.{sender_of, refusal_of, from_of}
+use Rattle.frame.specs.Reading.{sender_of, number_of}
 use Rattle.frame.specs.Writing.{Writing}
-use Rattle.frame.specs.declared.stamp.Stamped.{Stamped}
+use Rattle.frame.specs.declared.ReadError.{ReadError}
+use Rattle.frame.specs.declared.stamp.Stamp.{Stamp}
 
 -- the first byte
 abbrev pub stamp_mark : ℕ
@@ -66,6 +67,7 @@ stamp_reading n bytes =
       stamp = cond (eqb r 0) (stamp_of bytes) 0;
     }
 
--- the papers' number, the sender and the stamp of an answer
-abbrev pub said : Stamped → StampReading
-said r = record { refusal = refusal_of r.answer; sender = from_of r.answer; stamp = r.stamp }
+-- an answer: sender and stamp, or the refusal and zeros
+abbrev pub said : Result Stamp ReadError → StampReading
+said (Ok s) = record { refusal = 0; sender = s.sender; stamp = s.stamp }
+said (Err why) = record { refusal = number_of why; sender = 0; stamp = 0 }

@@ -1,10 +1,10 @@
 -- Writing a frame into a buffer ("Write frame" of document 01, with the frame of Paper 5).
-use Rattle.std.specs.Prelude.{List, [], ◌∷◌, cond, ℕ, length, leb, eqb}
+use Rattle.std.specs.Prelude.{List, [], ◌∷◌, cond, ℕ, length, leb, eqb, Result, Ok, Err}
 use Rattle.lists.specs.Entries.{over}
 use Rattle.lists.specs.First.{first_failed}
 use Rattle.frame.specs.Frame.{frame, stations_in, sender_in, counts_in}
-use Rattle.frame.specs.declared.Written.{Written}
-use Rattle.frame.specs.declared.Written.TheVariants.{Bytes, Stations, Counts, Sender, Entry, Space}
+use Rattle.frame.specs.declared.WriteError.{WriteError}
+use Rattle.frame.specs.declared.WriteError.TheVariants.{Stations, Counts, Sender, Entry, Space}
 
 -- the refusals in their order, 0 for none
 abbrev pub write_refusal : ℕ → ℕ → List ℕ → ℕ → ℕ
@@ -33,23 +33,15 @@ writing n sender counts buffer =
       buffer = cond (eqb r 0) (over (frame n sender counts) buffer) buffer;
     }
 
--- the papers' number and the length for each answer
-abbrev pub refusal_of : Written → ℕ
-refusal_of (Bytes size) = 0
-refusal_of Stations = 5
-refusal_of Counts = 17
-refusal_of Sender = 19
-refusal_of Entry = 20
-refusal_of Space = 16
+-- the papers' number of a refusal
+abbrev pub number_of : WriteError → ℕ
+number_of Stations = 5
+number_of Counts = 17
+number_of Sender = 19
+number_of Entry = 20
+number_of Space = 16
 
-abbrev pub length_of : Written → ℕ
-length_of (Bytes size) = size
-length_of Stations = 0
-length_of Counts = 0
-length_of Sender = 0
-length_of Entry = 0
-length_of Space = 0
-
--- an answer, with the buffer as it is then
-abbrev pub said : Written → List ℕ → Writing
-said answer buffer = record { refusal = refusal_of answer; written = length_of answer; buffer = buffer }
+-- an answer, with the buffer as it is then: the length, or the refusal and a length of zero
+abbrev pub said : Result ℕ WriteError → List ℕ → Writing
+said (Ok size) buffer = record { refusal = 0; written = size; buffer = buffer }
+said (Err why) buffer = record { refusal = number_of why; written = 0; buffer = buffer }

@@ -1,16 +1,16 @@
 // The clock frame: 11 hex, the sender and four bytes of stamp; written into a lent buffer, read from lent bytes.
 ghost use Rattle.std.specs.Prelude.{◌≡◌, ◌≤◌, length};
 ghost use Rattle.lists.specs.Entries.{over};
-ghost use Rattle.frame.specs.Stamp.{stamp_frame, stamp_size, stamp_of, stamp_writing, stamp_reading};
+ghost use Rattle.frame.specs.Stamp.{stamp_frame, stamp_size, stamp_writing, stamp_reading};
 ghost use Rattle.frame.specs.Stamp.{said as saidRead};
 ghost use Rattle.frame.specs.Writing.{said};
 
-use crate::{Receipt, Written, sender_in, stations_in};
+use crate::{ReadError, WriteError, ensure, sender_in, stations_in};
 
-// The answer, and the stamp: zero where refused.
-#[derive(Clone, Copy)]
-pub struct Stamped {
-    pub answer: Receipt,
+// What a clock frame says.
+#[derive(Clone, Copy, Debug, PartialEq, Eq)]
+pub struct Stamp {
+    pub sender: u8,
     pub stamp: u32,
 }
 
@@ -25,66 +25,33 @@ fn put_stamp(sender: u8, stamp: u32, buffer: &mut [u8])
     requires { stamp_size ≤ length buffer.old }
     ensures { buffer.new ≡ over (stamp_frame sender stamp) buffer.old }
 {
-    buffer[0] = MARK;
-    buffer[1] = sender;
-    buffer[2] = (stamp % 256) as u8;
-    buffer[3] = (stamp / 256 % 256) as u8;
-    buffer[4] = (stamp / 65536 % 256) as u8;
-    buffer[5] = (stamp / 16777216) as u8;
+    let [a, b, c, d] = stamp.to_le_bytes();
+    buffer[..SIZE].copy_from_slice(&[MARK, sender, a, b, c, d]);
 }
 
-// The stamp of the bytes, low byte first.
-fn stamp_of(bytes: &[u8]) -> u32
-    requires { length bytes.now ≡ stamp_size }
-    ensures { result ≡ stamp_of bytes.now }
-{
-    bytes[2] as u32 + 256 * bytes[3] as u32 + 65536 * bytes[4] as u32 + 16777216 * bytes[5] as u32
-}
-
-// The answer with a stamp of zero.
-fn refused(answer: Receipt) -> Stamped
-    ensures { result ≡ record { answer = answer; stamp = 0 } }
-{
-    Stamped { answer, stamp: 0 }
-}
-
-// Writes the clock frame of sender and stamp into the front of the buffer, or leaves the buffer as it is.
-pub fn write(n: u8, sender: u8, stamp: u32, buffer: &mut [u8]) -> Written
+// Writes the clock frame of sender and stamp into the front of the buffer, and answers its length; refused, the buffer stays as it is.
+#[tactic(auto, using(crate::proofs::Clock::lengths), unfolding(crate::specs::Stamp::stamp_writing))]
+pub fn write(n: u8, sender: u8, stamp: u32, buffer: &mut [u8]) -> Result<usize, WriteError>
     ensures { said result buffer.new ≡ stamp_writing n sender stamp buffer.old }
 {
-    if !stations_in(n) {
-        return Written::Stations;
-    }
-    if !sender_in(n, sender) {
-        return Written::Sender;
-    }
-    if buffer.len() < SIZE {
-        return Written::Space;
-    }
+    ensure(stations_in(n), WriteError::Stations)?;
+    ensure(sender_in(n, sender), WriteError::Sender)?;
+    ensure(SIZE <= buffer.len(), WriteError::Space)?;
     put_stamp(sender, stamp, buffer);
-    Written::Bytes(SIZE)
+    Ok(SIZE)
 }
 
 // Reads the clock frame that the bytes are.
 #[tactic(auto, unfolding(crate::specs::Stamp::stamp_reading))]
-pub fn read(n: u8, bytes: &[u8]) -> Stamped
+pub fn read(n: u8, bytes: &[u8]) -> Result<Stamp, ReadError>
     ensures { saidRead result ≡ stamp_reading n bytes.now }
 {
-    if !stations_in(n) {
-        return refused(Receipt::Stations);
-    }
-    if bytes.len() != SIZE {
-        return refused(Receipt::Length);
-    }
-    if bytes[0] != MARK {
-        return refused(Receipt::Mark);
-    }
-    let sender = bytes[1];
-    if !sender_in(n, sender) {
-        return refused(Receipt::Sender);
-    }
-    Stamped {
-        answer: Receipt::From(sender),
-        stamp: stamp_of(bytes),
-    }
+    ensure(stations_in(n), ReadError::Stations)?;
+    let &[mark, sender, a, b, c, d] = bytes else {
+        return Err(ReadError::Length);
+    };
+    ensure(mark == MARK, ReadError::Mark)?;
+    ensure(sender_in(n, sender), ReadError::Sender)?;
+    let stamp = u32::from_le_bytes([a, b, c, d]);
+    Ok(Stamp { sender, stamp })
 }

@@ -1,22 +1,20 @@
 -- Laws of a text that is read in parts, and character by character.
 use mathlib.Core.Path.{◌≡◌, refl, sym, ap, ◌∙◌}
 use mathlib.Core.List.{List, [], ◌∷◌, ◌++◌, append_assoc, append-nil}
-use mathlib.Core.Bool.{Bool, true, false, cond, not, ◌&&◌}
+use mathlib.Core.Bool.{true, cond}
 use Prim.Native.Nat.{ℕ, ◌+◌, ◌*◌, ◌-◌, ◌<◌, ◌≤◌}
 use native.Mathlib.Numerals.{add-one}
 use native.Mathlib.Omega.{arith}
 use lib.ListN.{length, get_or, take, drop, length-append, length-drop}
 use lib.Seq.{take-suc, take_all, length-take-le}
-use lib.Dec.{ltb, eqb}
-use borrow.Author.Tests.{ltb-true}
+use lib.Dec.{eqb}
 use borrow.Rule.Slice.PartMut.{put_mid}
-use Rattle.lists.proofs.Bools.{three, cond_elim}
+use Rattle.lists.proofs.Bools.{cond_elim}
 use Rattle.text.specs.Wrote.{Wrote}
 use Rattle.text.proofs.Parts.{wrote_part, wrote_length}
 use Rattle.frames.specs.Claims.{Parts, ended}
-use Rattle.text.specs.Hex.{digit_of, is_digit}
-use Rattle.frames.specs.Line.{Held, kept, begin, read, longest_line, stepped, told_at, after, printed}
-use Rattle.frames.specs.declared.line.Line.{Line}
+use Rattle.frames.specs.Line.{begin, read, longest_line, stepped, told_at, after, printed}
+use Rattle.frames.specs.Line.{Line}
 use Rattle.frames.proofs.Room.{line_room_lem}
 
 pub after-append : (s : Line) (a b : List ℕ) → after s (a ++ b) ≡ after (after s a) b
@@ -40,30 +38,7 @@ parts s a b = (after-append s a b, printed-append s a b)
 pub last-part : (s : Line) → s.begun ≡ true → length (printed s (0x0a ∷ [])) ≡ length (printed s (ended s))
 last-part s e = ap (λ b. length (printed s (cond b (0x0a ∷ []) []))) (sym e)
 
--- what is kept of a line stays within its bounds, and its number is at most as many more as there were characters
-held-read : (s : Line) (c : ℕ) → Held s → Held (read s c)
-unfolding read
-held-read s c h = (
-  cond_elim (λ x. x ≤ 16) (is_digit c && not (not (eqb s.high 16))) (λ e. small (both_first _ _ e)) (λ e. omega arith),
-  cond_elim (λ x. x ≤ kept) (is_digit c && not (eqb s.high 16) && ltb s.size kept) (λ e. omega (arith, ltb-true s.size kept (three (is_digit c) (not (eqb s.high 16)) (ltb s.size kept) e).2)) (λ e. h.1),
-)
-  where
-    small : is_digit c ≡ true → digit_of c ≤ 16
-    small e = omega (arith, ltb-true (digit_of c) 16 e)
-
-    both_first : (a b : Bool) → (a && b) ≡ true → a ≡ true
-    both_first true b e = refl
-    both_first false b e = e
-
-held-stepped : (s : Line) (c : ℕ) → Held s → Held (stepped s c)
-unfolding stepped begin
-held-stepped s c h = cond_elim Held (eqb c 10) (λ e. (omega arith, omega arith)) (λ e. held-read s c h)
-
-pub held_after : (s : Line) (cs : List ℕ) → Held s → Held (after s cs)
-unfolding after
-held_after s [] h = h
-held_after s (c ∷ cs) h = held_after (stepped s c) cs (held-stepped s c h)
-
+-- the number of a line is at most as many more as there were characters
 number_stepped : (s : Line) (c : ℕ) → (stepped s c).number ≤ s.number + 1
 unfolding stepped begin read
 number_stepped s c = cond_elim (λ (x : Line). x.number ≤ s.number + 1) (eqb c 10) (λ e. omega arith) (λ e. omega arith)
@@ -117,9 +92,6 @@ module _ {first : Line} {bytes old : List ℕ} {k : ℕ} {s : Line} {at : ℕ} {
 
   pub stands_room : longest_line ≤ length (take (length b - at) (drop at b))
   stands_room = rw (take_all (length b - at) (drop at b) (omega (arith, length-drop at b))) (omega (arith, length-drop at b, written, same))
-
-  pub stands_held : Held first → Held s
-  stands_held h = rw now.line (held_after first (take k bytes) h)
 
   pub stands_number : s.number ≤ first.number + k
   stands_number = rw now.line (omega (arith, number_after first (take k bytes), length-take-le k bytes (omega arith)))

@@ -3,14 +3,16 @@ use mathlib.Core.Path.{◌≡◌, refl, sym, ap, subst, ◌∙◌}
 use mathlib.Core.Logic.{◌⊎◌}
 use mathlib.Core.Logic.◌⊎◌.{inl, inr}
 use mathlib.Core.List.{List, [], ◌∷◌, ◌++◌, append-nil, append_assoc}
-use mathlib.Core.Bool.{Bool, true, false, cond, ◌&&◌, ◌||◌, false≢true, and-false}
+use mathlib.Core.Bool.{Bool, true, false, cond, not, ◌&&◌, ◌||◌, true≢false, false≢true, and-false}
 use Prim.Native.Nat.{ℕ, ◌+◌, ◌*◌, ◌<◌, ◌≤◌, min}
 use native.Mathlib.Decide.{dec_lt}
-use native.Mathlib.Numerals.{add-one}
 use native.Mathlib.Omega.{arith}
-use lib.ListN.{length, take, set, length-append, length-set}
-use lib.Seq.{take-suc, take_all, take-append-le, take-set-le, get_or-set_same, length-take-le, get_or-take}
-use lib.Dec.{eqb}
+use lib.ListN.{length, take, length-append}
+use Rattle.std.proofs.Common.{Option, Some, None, is_some}
+use Rattle.std.specs.Option.{unwrap_or}
+use Rattle.std.proofs.lemmas.List.{length-take}
+use lib.Seq.{take_all, take-append-le, length-take-le, get_or-take}
+use lib.Dec.{eqb, ltb}
 use borrow.Author.Tests.{lt-ltb, le-ltb, eqb-true, ne_eqb}
 use Rattle.lists.proofs.Bools.{either, false_unless}
 use Rattle.frame.specs.Frame.{frame_size, stations_in}
@@ -21,8 +23,7 @@ use Rattle.frame.proofs.Ranges.{stations-range}
 use Rattle.frames.specs.Explained.{own_count, frame_text, found, line_text}
 use Rattle.text.specs.Hex.{Spelled, is_blank, digit_of, is_digit, no_hex, with_first, spelled}
 use Rattle.frames.specs.Line.{kept, begin, read, told}
-use Rattle.frames.specs.declared.line.Line.{Line}
-use Rattle.frames.proofs.Characters.{More}
+use Rattle.frames.specs.Line.{Line}
 use Rattle.frames.proofs.Own.{own-two}
 use Rattle.frames.proofs.Spelling.{spelled_from, from-left}
 
@@ -68,9 +69,7 @@ same-found k false a b e = refl
 -- the bytes so far are B, of which the first are kept
 pub record Keeps (s : Line) (B : List ℕ) : Type 0 where
   pub hex : s.hex ≡ true
-  pub room : length s.bytes ≡ kept
-  pub size : s.size ≡ min kept (length B)
-  pub bytes : take s.size s.bytes ≡ take kept B
+  pub bytes : s.bytes ≡ take kept B
 
 -- the characters of a line, one after the other
 unfoldable pub read_all : Line → List ℕ → Line
@@ -103,17 +102,22 @@ no_digit c e = go (either (eqb c 32 || eqb c 9) (eqb c 13) e)
     go (inr i) = at 13 (eqb-true c 13 i) refl
 
 -- a character that ends no byte
-keeps_same : (s : Line) (c : ℕ) (B : List ℕ) → Keeps s B → More (digit_of c) s.high s.size ≡ false → (read s c).hex ≡ true → Keeps (read s c) B
+keeps_same : (s : Line) (c : ℕ) (B : List ℕ) → Keeps s B → (is_digit c && is_some s.high) ≡ false → (read s c).hex ≡ true → Keeps (read s c) B
 unfolding read
-keeps_same s c B k e h = record { hex = h; room = rw e k.room; size = rw e k.size; bytes = rw e k.bytes }
+keeps_same s c B k e h = record { hex = h; bytes = none (is_digit c) (is_some s.high) e ∙ k.bytes }
+  where
+    none : (d w : Bool) → (d && w) ≡ false → cond (d && w && ltb (length s.bytes) kept) (s.bytes ++ ((16 * unwrap_or s.high 0 + digit_of c) ∷ [])) s.bytes ≡ s.bytes
+    none true true e = absurd (true≢false e)
+    none true false e = refl
+    none false w e = refl
 
 -- and one that ends a byte
-keeps_more : (s : Line) (c : ℕ) (B : List ℕ) → Keeps s B → is_digit c ≡ true → eqb s.high 16 ≡ false → Keeps (read s c) (B ++ ((16 * s.high + digit_of c) ∷ []))
+keeps_more : (s : Line) (c : ℕ) (B : List ℕ) (h : ℕ) → Keeps s B → is_digit c ≡ true → s.high ≡ Some h → Keeps (read s c) (B ++ ((16 * h + digit_of c) ∷ []))
 unfolding read
-keeps_more s c B k d w = go (dec_lt s.size kept)
+keeps_more s c B h k d w = go (dec_lt (length s.bytes) kept)
   where
     b : ℕ
-    b = 16 * s.high + digit_of c
+    b = 16 * h + digit_of c
 
     B' : List ℕ
     B' = B ++ (b ∷ [])
@@ -121,30 +125,21 @@ keeps_more s c B k d w = go (dec_lt s.size kept)
     more : length B' ≡ length B + 1
     more = length-append B (b ∷ [])
 
-    go : Dec (s.size < kept) → Keeps (read s c) B'
+    size : length s.bytes ≡ min kept (length B)
+    size = ap length k.bytes ∙ length-take kept B
+
+    go : Dec (length s.bytes < kept) → Keeps (read s c) B'
     go (yes l) =
-        let few : length B < kept = omega (arith, k.size) in
-        let whole : take kept B ≡ B = take_all kept B (omega arith) in
-        let at : s.size ≡ length B = omega (arith, k.size) in
+        let whole : take kept B ≡ B = take_all kept B (omega (arith, size)) in
         record {
           hex = rw (d, k.hex);
-          room = rw (d, w, lt-ltb s.size kept l) (length-set s.bytes s.size b ∙ k.room);
-          size = rw (d, w, lt-ltb s.size kept l) (omega (arith, at, more));
-          bytes = rw (d, w, lt-ltb s.size kept l, take_all kept B' (omega (arith, more))) (stored l (k.bytes ∙ whole));
+          bytes = rw (d, w, lt-ltb (length s.bytes) kept l, take_all kept B' (omega (arith, more, size, l)), k.bytes, whole);
         }
-      where
-        stored : s.size < kept → take s.size s.bytes ≡ B → take (s.size + 1) (set s.bytes s.size b) ≡ B'
-        stored l e =
-            let here : s.size < length s.bytes = omega (arith, k.room) in
-            rw (add-one s.size, take-suc (set s.bytes s.size b) s.size 0 (omega (arith, length-set s.bytes s.size b)))
-            (rw (take-set-le s.size s.bytes s.size b (omega arith), get_or-set_same s.bytes s.size b 0 here, e))
     go (no l) =
-        let all : kept ≤ length B = omega (arith, k.size) in
+        let all : kept ≤ length B = omega (arith, size) in
         record {
           hex = rw (d, k.hex);
-          room = rw (d, w, le-ltb s.size kept (omega arith)) k.room;
-          size = rw (d, w, le-ltb s.size kept (omega arith)) (omega (arith, k.size, more));
-          bytes = rw (d, w, le-ltb s.size kept (omega arith)) (k.bytes ∙ sym (take-append-le kept B (b ∷ []) all));
+          bytes = rw (d, w, le-ltb (length s.bytes) kept (omega arith)) (k.bytes ∙ sym (take-append-le kept B (b ∷ []) all));
         }
 
 -- a byte more before what the rest spells
@@ -158,12 +153,12 @@ shift k B b x = go x.hex
 -- so what is told at the end is what the line spells
 goes : (s : Line) (B cs : List ℕ) → Keeps s B → told (read_all s cs) ≡ line_text s.number (prefixed B (spelled_from s.high cs))
 unfolding read_all read spelled_from
-goes s B [] k = end (eqb s.high 16)
+goes s B [] k = end s.high
   where
-    end : (w : Bool) → line_text s.number (record { hex = s.hex && w; bytes = take s.size s.bytes }) ≡ line_text s.number (prefixed B (cond w (record { hex = true; bytes = [] }) no_hex))
-    end true = rw k.hex (same-found s.number true _ _ (λ e. rw (k.bytes, append-nil B) (first-kept B)))
-    end false = rw k.hex (same-found s.number false _ _ (λ e. absurd (false≢true e)))
-goes s B (c ∷ cs) k = go (eqb s.high 16) (is_blank c) (is_digit c) refl refl refl (λ B' k'. goes (read s c) B' cs k')
+    end : (w : Option ℕ) → line_text s.number (record { hex = s.hex && not (is_some w); bytes = s.bytes }) ≡ line_text s.number (prefixed B (spelled_from w []))
+    end None = rw k.hex (same-found s.number true _ _ (λ e. rw (k.bytes, append-nil B) (first-kept B)))
+    end (Some h) = rw k.hex (same-found s.number false _ _ (λ e. absurd (false≢true e)))
+goes s B (c ∷ cs) k = go s.high (is_blank c) (is_digit c) refl refl refl (λ B' k'. goes (read s c) B' cs k')
   where
     Told : Spelled → Type 0
     Told x = told (read_all (read s c) cs) ≡ line_text s.number (prefixed B x)
@@ -171,22 +166,22 @@ goes s B (c ∷ cs) k = go (eqb s.high 16) (is_blank c) (is_digit c) refl refl r
     nowhere : (read s c).hex ≡ false → Told no_hex
     nowhere e = lost (read s c) cs e ∙ same-found s.number false _ _ (λ i. absurd (false≢true i))
 
-    on : {h : ℕ} (B' : List ℕ) → (read s c).high ≡ h → told (read_all (read s c) cs) ≡ line_text s.number (prefixed B' (spelled_from (read s c).high cs)) → told (read_all (read s c) cs) ≡ line_text s.number (prefixed B' (spelled_from h cs))
+    on : {h : Option ℕ} (B' : List ℕ) → (read s c).high ≡ h → told (read_all (read s c) cs) ≡ line_text s.number (prefixed B' (spelled_from (read s c).high cs)) → told (read_all (read s c) cs) ≡ line_text s.number (prefixed B' (spelled_from h cs))
     on {h} B' e t = subst (λ x. told (read_all (read s c) cs) ≡ line_text s.number (prefixed B' (spelled_from x cs))) e t
 
     go :
-        (w bl dg : Bool) → eqb s.high 16 ≡ w → is_blank c ≡ bl → is_digit c ≡ dg
+        (w : Option ℕ) (bl dg : Bool) → s.high ≡ w → is_blank c ≡ bl → is_digit c ≡ dg
         → ((B' : List ℕ) → Keeps (read s c) B' → told (read_all (read s c) cs) ≡ line_text s.number (prefixed B' (spelled_from (read s c).high cs)))
-        → Told (cond w (cond bl (spelled_from 16 cs) (cond dg (spelled_from (digit_of c) cs) no_hex)) (cond dg (with_first (16 * s.high + digit_of c) (spelled_from 16 cs)) no_hex))
-    go true true dg ew eb ed ih =
+        → Told (cond (is_some w) (cond dg (with_first (16 * unwrap_or w 0 + digit_of c) (spelled_from None cs)) no_hex) (cond bl (spelled_from None cs) (cond dg (spelled_from (Some (digit_of c)) cs) no_hex)))
+    go None true dg ew eb ed ih =
         let nd = no_digit c eb in
         on B (rw nd) (ih B (keeps_same s c B k (rw nd) (rw (k.hex, nd, eb, ew))))
-    go true false true ew eb ed ih = on B (rw (ed, ew)) (ih B (keeps_same s c B k (rw (ed, ew)) (rw (k.hex, ed))))
-    go true false false ew eb ed ih = nowhere (rw (k.hex, ed, eb))
-    go false bl true ew eb ed ih = on (B ++ ((16 * s.high + digit_of c) ∷ [])) (rw (ed, ew)) (ih (B ++ ((16 * s.high + digit_of c) ∷ [])) (keeps_more s c B k ed ew)) ∙ shift s.number B (16 * s.high + digit_of c) (spelled_from 16 cs)
-    go false bl false ew eb ed ih = nowhere (rw (k.hex, ed, ew) (and-false (is_blank c)))
+    go None false true ew eb ed ih = on B (rw (ed, ew)) (ih B (keeps_same s c B k (rw (ed, ew)) (rw (k.hex, ed))))
+    go None false false ew eb ed ih = nowhere (rw (k.hex, ed, eb))
+    go (Some h) bl true ew eb ed ih = on (B ++ ((16 * h + digit_of c) ∷ [])) (rw (ed, ew)) (ih (B ++ ((16 * h + digit_of c) ∷ [])) (keeps_more s c B h k ed ew)) ∙ shift s.number B (16 * h + digit_of c) (spelled_from None cs)
+    go (Some h) bl false ew eb ed ih = nowhere (rw (k.hex, ed, ew) (and-false (is_blank c)))
 
 -- and a line that is read from its beginning tells what it spells
 pub whole-line : (k : ℕ) (line : List ℕ) → told (read_all (begin k) line) ≡ line_text k (spelled line)
 unfolding begin
-whole-line k line = goes (begin k) [] line (record { hex = refl; room = refl; size = refl; bytes = refl }) ∙ ap (line_text k) (from-left line)
+whole-line k line = goes (begin k) [] line (record { hex = refl; bytes = refl }) ∙ ap (line_text k) (from-left line)

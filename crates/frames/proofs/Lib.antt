@@ -1,10 +1,9 @@
 -- What the program frames prints: the laws.
-pub mod Characters
 pub mod Chosen
 pub mod Computed
-pub mod Ending
 pub mod Going
 pub mod Kept
+pub mod Mapped
 pub mod Moving
 pub mod Own
 pub mod Room

@@ -14,7 +14,7 @@ use Rattle.frame.specs.Reading.{Reading, reading}
 use Rattle.frame.specs.Stamp.{StampReading, stamp_reading}
 use Rattle.frames.specs.Explained.{own_count, reason, counted, received, answered, stamp_reason, stamped, stamp_answered, is_stamp, frame_text, found, line_text}
 use Rattle.frames.specs.Line.{told, spells, longest_line}
-use Rattle.frames.specs.declared.line.Line.{Line}
+use Rattle.frames.specs.Line.{Line}
 use Rattle.frames.proofs.Own.{at-most_eight}
 
 reason-room : (r : ℕ) → length (reason r) ≤ 47

@@ -2,43 +2,40 @@
 use mathlib.Core.Path.{◌≡◌, refl}
 use mathlib.Core.List.{List, [], ◌∷◌}
 use mathlib.Core.Bool.{Bool, true, false, cond, ◌&&◌}
+use Rattle.std.specs.Prelude.{Option, Some, None, is_some}
+use Rattle.std.specs.Option.{unwrap_or}
 use Prim.Native.Nat.{ℕ, suc, ◌+◌, ◌*◌, ◌/◌, ◌%◌, ◌<◌, ◌≤◌}
 use native.Mathlib.Decide.{dec_lt}
 use native.Mathlib.Omega.{arith}
-use lib.Dec.{eqb}
-use borrow.Author.Tests.{ltb-true, lt-ltb, le-ltb, ne_eqb, le-leb, lt-leb}
+use borrow.Author.Tests.{lt-ltb, le-ltb, ne_eqb, le-leb, lt-leb}
 use Rattle.text.specs.Hex.{Spelled, is_blank, digit_of, is_digit, no_hex, with_first, spelled, digit, hex_of}
 use Rattle.frames.specs.Claims.{HexRestores}
 
--- what the rest of a line spells, after the digit h, 16 for none
-unfoldable pub spelled_from : ℕ → List ℕ → Spelled
-spelled_from h [] = cond (eqb h 16) (record { hex = true; bytes = [] }) no_hex
+-- what the rest of a line spells, after the digit that waits, if one does
+unfoldable pub spelled_from : Option ℕ → List ℕ → Spelled
+spelled_from h [] = cond (is_some h) no_hex (record { hex = true; bytes = [] })
 spelled_from h (c ∷ cs) =
-    cond (eqb h 16)
-    (cond (is_blank c) (spelled_from 16 cs) (cond (is_digit c) (spelled_from (digit_of c) cs) no_hex))
-    (cond (is_digit c) (with_first (16 * h + digit_of c) (spelled_from 16 cs)) no_hex)
+    cond (is_some h)
+    (cond (is_digit c) (with_first (16 * unwrap_or h 0 + digit_of c) (spelled_from None cs)) no_hex)
+    (cond (is_blank c) (spelled_from None cs) (cond (is_digit c) (spelled_from (Some (digit_of c)) cs) no_hex))
 
--- a digit is not 16
-pub waits : (c : ℕ) → is_digit c ≡ true → eqb (digit_of c) 16 ≡ false
-waits c e = ne_eqb (digit_of c) 16 (λ i. omega (arith, ltb-true (digit_of c) 16 e))
-
-pub from-left : (line : List ℕ) → spelled_from 16 line ≡ spelled line
+pub from-left : (line : List ℕ) → spelled_from None line ≡ spelled line
 unfolding spelled spelled_from
 from-left [] = refl
-from-left (c ∷ []) = one (is_digit c) refl
+from-left (c ∷ []) = one (is_digit c)
   where
-    one : (b : Bool) → is_digit c ≡ b → cond (is_blank c) (record { hex = true; bytes = [] }) (cond b (cond (eqb (digit_of c) 16) (record { hex = true; bytes = [] }) no_hex) no_hex) ≡ cond (is_blank c) (record { hex = true; bytes = [] }) no_hex
-    one true e = rw (waits c e)
-    one false e = refl
-from-left (c ∷ d ∷ line) = two (is_blank c) (is_digit c) refl (from-left (d ∷ line)) (from-left line)
+    one : (b : Bool) → cond (is_blank c) (record { hex = true; bytes = [] }) (cond b no_hex no_hex) ≡ cond (is_blank c) (record { hex = true; bytes = [] }) no_hex
+    one true = refl
+    one false = refl
+from-left (c ∷ d ∷ line) = two (is_blank c) (is_digit c) (from-left (d ∷ line)) (from-left line)
   where
     rest : Spelled
     rest = with_first (16 * digit_of c + digit_of d) (spelled line)
 
-    two : (a b : Bool) → is_digit c ≡ b → spelled_from 16 (d ∷ line) ≡ spelled (d ∷ line) → spelled_from 16 line ≡ spelled line → cond a (spelled_from 16 (d ∷ line)) (cond b (spelled_from (digit_of c) (d ∷ line)) no_hex) ≡ cond a (spelled (d ∷ line)) (cond (b && is_digit d) rest no_hex)
-    two true b e one_on two-on = one_on
-    two false true e one_on two-on = rw (waits c e, two-on)
-    two false false e one_on two-on = refl
+    two : (a b : Bool) → spelled_from None (d ∷ line) ≡ spelled (d ∷ line) → spelled_from None line ≡ spelled line → cond a (spelled_from None (d ∷ line)) (cond b (spelled_from (Some (digit_of c)) (d ∷ line)) no_hex) ≡ cond a (spelled (d ∷ line)) (cond (b && is_digit d) rest no_hex)
+    two true b one_on two-on = one_on
+    two false true one_on two-on = rw two-on
+    two false false one_on two-on = refl
 
 -- the digit of a number below 16 is read as that number
 digit_low : (d : ℕ) → d < 10 → digit d ≡ 48 + d

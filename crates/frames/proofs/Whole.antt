@@ -8,7 +8,7 @@ use Rattle.frames.specs.Claims.{ended, Whole}
 use Rattle.frames.specs.Explained.{line_text, lines_from, explained, output}
 use Rattle.text.specs.Hex.{spelled}
 use Rattle.frames.specs.Line.{begin, read, told, stepped, told_at, after, printed}
-use Rattle.frames.specs.declared.line.Line.{Line}
+use Rattle.frames.specs.Line.{Line}
 use Rattle.frames.proofs.Kept.{read_all, whole-line}
 
 read-snoc : (s : Line) (cs : List ℕ) (c : ℕ) → read_all s (cs ++ (c ∷ [])) ≡ read (read_all s cs) c

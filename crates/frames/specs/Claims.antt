@@ -8,7 +8,7 @@ use Rattle.frame.specs.Stamp.{stamp_reading}
 use Rattle.frame.specs.StampClaims.{StampFormed}
 use Rattle.frames.specs.Explained.{own_count, received, stamped, is_stamp, frame_text, output}
 use Rattle.frames.specs.Line.{begin, after, printed}
-use Rattle.frames.specs.declared.line.Line.{Line}
+use Rattle.frames.specs.Line.{Line}
 
 -- well formed for some number of stations: as a LEADER frame, and as a clock frame
 pub record Some (bytes : List ℕ) : Type 0 where

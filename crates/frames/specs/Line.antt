@@ -1,39 +1,43 @@
 -- A line as far as it is read, character by character: what the program keeps of it, and what it prints at its end.
-use Rattle.std.specs.Prelude.{List, [], ◌∷◌, ◌++◌, Bool, true, false, cond, not, ◌&&◌, ◌||◌, ℕ, ◌+◌, ◌*◌, ◌≤◌, take, set, replicate, ltb, eqb}
+use Rattle.std.specs.Prelude.{List, [], ◌∷◌, ◌++◌, Bool, true, false, cond, not, ◌&&◌, ◌||◌, ℕ, ◌+◌, ◌*◌, Option, Some, None, is_some, length, ltb, eqb}
+use Rattle.std.specs.Option.{unwrap_or}
 use Rattle.frame.specs.Frame.{frame_size}
 use Rattle.text.specs.Hex.{Spelled, is_blank, digit_of, is_digit}
 use Rattle.frames.specs.Explained.{line_text}
-use Rattle.frames.specs.declared.line.Line.{Line}
 
 -- how many bytes of a line are kept: one more than the longest frame has, so that a longer line is not taken for it
 abbrev pub kept : ℕ
 kept = frame_size 8 + 1
 
--- the digit that waits for the second one of its byte is one, or 16 for none; and there are no more bytes than are kept
-abbrev pub Held : Line → Type 0
-Held s = (s.high ≤ 16) × (s.size ≤ kept)
+-- a line as far as it is read: its number, from 1; whether it has a character; whether it is hex; the first digit of a byte, while it waits for the second; and
+-- the first bytes
+pub record Line : Type 0 where
+  pub number : ℕ
+  pub begun : Bool
+  pub hex : Bool
+  pub high : Option ℕ
+  pub bytes : List ℕ
 
 -- line k before its first character
 unfoldable pub begin : ℕ → Line
-begin k = record { number = k; begun = false; hex = true; high = 16; size = 0; bytes = replicate kept 0 }
+begin k = record { number = k; begun = false; hex = true; high = None; bytes = [] }
 
 -- the line and one character more
 unfoldable pub read : Line → ℕ → Line
 read s c =
-    let waits : Bool = not (eqb s.high 16) in
-    let more : Bool = is_digit c && waits && ltb s.size kept in
+    let waits : Bool = is_some s.high in
+    let more : Bool = is_digit c && waits && ltb (length s.bytes) kept in
     record {
       number = s.number;
       begun = true;
       hex = s.hex && (is_digit c || (is_blank c && not waits));
-      high = cond (is_digit c && not waits) (digit_of c) 16;
-      size = cond more (s.size + 1) s.size;
-      bytes = cond more (set s.bytes s.size (16 * s.high + digit_of c)) s.bytes;
+      high = cond (is_digit c && not waits) (Some (digit_of c)) None;
+      bytes = cond more (s.bytes ++ ((16 * unwrap_or s.high 0 + digit_of c) ∷ [])) s.bytes;
     }
 
 -- what it spells if it ends here
 abbrev pub spells : Line → Spelled
-spells s = record { hex = s.hex && eqb s.high 16; bytes = take s.size s.bytes }
+spells s = record { hex = s.hex && not (is_some s.high); bytes = s.bytes }
 
 abbrev pub told : Line → List ℕ
 told s = line_text s.number (spells s)

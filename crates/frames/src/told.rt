@@ -1,57 +1,72 @@
 // What is printed for a line, and for some bytes of the text.
 ghost use Rattle.std.specs.Prelude.{◌≡◌, ◌+◌, ◌*◌, ◌^◌, ◌≤◌, ◌<◌, length};
 ghost use Rattle.text.specs.Wrote.{Wrote};
-ghost use Rattle.frame.specs.Reading.{said};
+ghost use Rattle.frame.specs.Reading.{said, number_of};
 ghost use Rattle.frame.specs.Stamp.{said as saidStamp};
-ghost use Rattle.frames.specs.Explained.{own_count, counted, received, refused, answered, stamp_reason, stamped, stamp_answered, is_stamp, frame_text, found};
-ghost use Rattle.frames.specs.Line.{Held, spells, told, longest_line, stepped, told_at, after, printed};
+ghost use Rattle.frames.specs.Explained.{own_count, reason, counted, received, refused, answered, stamp_reason, stamped, stamp_answered, is_stamp, frame_text, found};
+ghost use Rattle.frames.specs.Line.{spells, told, longest_line, stepped, told_at, after, printed};
 
-use crate::line::{Line, begin, read};
-use frame::numbers::{read_refusal, sender_of};
-use frame::stamp::Stamped;
-use frame::{Receipt, Received};
-use text::rules::{put, put_counts, put_named, put_pair};
-
-// Writes the counts by name.
-fn put_counted(n: u8, counts: [u16; 8], buffer: &mut [u8]) -> usize
-    requires { (n ≤ 8) × (length (counted n counts) ≤ length buffer.old) }
-    ensures { Wrote (counted n counts) buffer.old result buffer.new }
-{
-    let at = put(b" counts ", buffer);
-    at + put_counts(n as usize, counts, &mut buffer[at..])
-}
+use crate::line::Line;
+use frame::stamp::Stamp;
+use frame::{Leader, ReadError};
+use text::rules::{Counts, Decimal, Joined, Text};
 
 // Writes sender, n and counts by name.
-fn put_received(n: u8, sender: u8, counts: [u16; 8], buffer: &mut [u8]) -> usize
-    requires { (n ≤ 8) × (length (received n sender counts) ≤ length buffer.old) }
-    ensures { Wrote (received n sender counts) buffer.old result buffer.new }
+#[tactic(auto, unfolding(text::specs::Quoted::text, crate::specs::Explained::received, crate::specs::Explained::counted))]
+fn put_received(n: u8, leader: &Leader, buffer: &mut [u8]) -> usize
+    requires { (n ≤ 8) × (length (received n leader.now.sender leader.now.counts) ≤ length buffer.old) }
+    ensures { Wrote (received n leader.now.sender leader.now.counts) buffer.old result buffer.new }
 {
-    let a = put_named(b"sender ", sender as u64, buffer);
-    let b = a + put_named(b" n ", n as u64, &mut buffer[a..]);
-    b + put_counted(n, counts, &mut buffer[b..])
+    let counts = Joined(Counts(&leader.counts[..usize::from(n)]));
+    let sender = ("sender ", Decimal(u64::from(leader.sender)));
+    (sender, (" n ", Decimal(u64::from(n))), (" counts ", counts)).put(buffer)
+}
+
+// Why bytes are no LEADER frame.
+#[tactic(auto, unfolding(text::specs::Quoted::text, crate::specs::Explained::reason))]
+fn reason(why: ReadError) -> &'static str
+    ensures { result.now ≡ reason (number_of why) }
+{
+    match why {
+        ReadError::Stations => "n is not 2 to 8",
+        ReadError::Length => "the length is not 3 + 2n",
+        ReadError::Mark => "the first byte is neither 10 nor 11 hex",
+        ReadError::Count => "another n is written",
+        ReadError::Sender => "the sender is not 1 to n",
+        ReadError::Entry => "a count is above 4095, or the sender's own is 0",
+    }
+}
+
+// Why bytes are no clock frame.
+#[tactic(auto, unfolding(text::specs::Quoted::text, crate::specs::Explained::stamp_reason))]
+fn stamp_reason(why: ReadError) -> &'static str
+    ensures { result.now ≡ stamp_reason (number_of why) }
+{
+    match why {
+        ReadError::Length => "the length is not 6",
+        _ => "the sender is not 1 to 8",
+    }
+}
+
+// Writes a refusal and why.
+#[tactic(auto, unfolding(text::specs::Quoted::text))]
+fn put_refused(refusal: ReadError, why: &str, buffer: &mut [u8]) -> usize
+    requires { length (refused (number_of refusal) why.now) ≤ length buffer.old }
+    ensures { Wrote (refused (number_of refusal) why.now) buffer.old result buffer.new }
+{
+    let refused = ("refused ", Decimal(u64::from(refusal.number())));
+    (refused, ", ", why).put(buffer)
 }
 
 // Writes what reading a frame for n stations answered.
-fn put_answer(n: u8, r: Received, buffer: &mut [u8]) -> usize
-    requires { ((said r).refusal ≡ 0 → n ≤ 8) × (length (answered n (said r)) ≤ length buffer.old) }
-    ensures { Wrote (answered n (said r)) buffer.old result buffer.new }
+#[tactic(auto, unfolding(crate::specs::Explained::answered))]
+fn put_answer(n: u8, answer: Result<Leader, ReadError>, buffer: &mut [u8]) -> usize
+    requires { ((said answer).refusal ≡ 0 → n ≤ 8) × (length (answered n (said answer)) ≤ length buffer.old) }
+    ensures { Wrote (answered n (said answer)) buffer.old result buffer.new }
 {
-    let counts = r.counts;
-    let answer = r.answer;
     match answer {
-        Receipt::From(sender) => put_received(n, sender, counts, buffer),
-        Receipt::Stations => put(b"refused 5, n is not 2 to 8", buffer),
-        Receipt::Length => put(b"refused 17, the length is not 3 + 2n", buffer),
-        Receipt::Mark => put(
-            b"refused 18, the first byte is neither 10 nor 11 hex",
-            buffer,
-        ),
-        Receipt::Sender => put(b"refused 19, the sender is not 1 to n", buffer),
-        Receipt::Entry => put(
-            b"refused 20, a count is above 4095, or the sender's own is 0",
-            buffer,
-        ),
-        Receipt::Count => put(b"refused 24, another n is written", buffer),
+        Ok(leader) => put_received(n, &leader, buffer),
+        Err(why) => put_refused(why, reason(why), buffer),
     }
 }
 
@@ -60,61 +75,39 @@ fn own_count(bytes: &[u8]) -> u8
     ensures { result ≡ own_count bytes.now }
 {
     if frame::is_length(bytes.len()) {
-        return bytes[2];
+        bytes[2]
+    } else {
+        2
     }
-    2
-}
-
-// Writes why a clock frame is refused.
-fn put_stamp_reason(refusal: u64, buffer: &mut [u8]) -> usize
-    requires { length (stamp_reason refusal) ≤ length buffer.old }
-    ensures { Wrote (stamp_reason refusal) buffer.old result buffer.new }
-{
-    if refusal == 17 {
-        return put(b"the length is not 6", buffer);
-    }
-    put(b"the sender is not 1 to 8", buffer)
-}
-
-// Writes the refusal of a clock frame, and why.
-fn put_stamp_refused(refusal: u64, buffer: &mut [u8]) -> usize
-    requires { length (refused refusal (stamp_reason refusal)) ≤ length buffer.old }
-    ensures { Wrote (refused refusal (stamp_reason refusal)) buffer.old result buffer.new }
-{
-    let a = put_named(b"refused ", refusal, buffer);
-    let b = a + put(b", ", &mut buffer[a..]);
-    b + put_stamp_reason(refusal, &mut buffer[b..])
 }
 
 // Writes sender and stamp by name.
-fn put_stamped(sender: u8, stamp: u32, buffer: &mut [u8]) -> usize
-    requires { length (stamped sender stamp) ≤ length buffer.old }
-    ensures { Wrote (stamped sender stamp) buffer.old result buffer.new }
+#[tactic(auto, unfolding(text::specs::Quoted::text, crate::specs::Explained::stamped))]
+fn put_stamped(read: Stamp, buffer: &mut [u8]) -> usize
+    requires { length (stamped read.sender read.stamp) ≤ length buffer.old }
+    ensures { Wrote (stamped read.sender read.stamp) buffer.old result buffer.new }
 {
-    put_pair(b"sender ", sender as u64, b" stamp ", stamp as u64, buffer)
+    let sender = ("sender ", Decimal(u64::from(read.sender)));
+    (sender, (" stamp ", Decimal(u64::from(read.stamp)))).put(buffer)
 }
 
 // Writes what reading a clock frame answered.
-fn put_stamp_answer(r: Stamped, buffer: &mut [u8]) -> usize
-    requires { length (stamp_answered (saidStamp r)) ≤ length buffer.old }
-    ensures { Wrote (stamp_answered (saidStamp r)) buffer.old result buffer.new }
+#[tactic(auto, unfolding(crate::specs::Explained::stamp_answered))]
+fn put_stamp_answer(answer: Result<Stamp, ReadError>, buffer: &mut [u8]) -> usize
+    requires { length (stamp_answered (saidStamp answer)) ≤ length buffer.old }
+    ensures { Wrote (stamp_answered (saidStamp answer)) buffer.old result buffer.new }
 {
-    let answer = r.answer;
-    let refusal = read_refusal(answer);
-    if refusal == 0 {
-        return put_stamped(sender_of(answer), r.stamp, buffer);
+    match answer {
+        Ok(read) => put_stamped(read, buffer),
+        Err(why) => put_refused(why, stamp_reason(why), buffer),
     }
-    put_stamp_refused(refusal, buffer)
 }
 
 // Whether the bytes begin as a clock frame does.
 fn is_stamp(bytes: &[u8]) -> bool
     ensures { result ≡ is_stamp bytes.now }
 {
-    if bytes.len() == 0 {
-        return false;
-    }
-    bytes[0] == frame::stamp::MARK
+    matches!(bytes, [frame::stamp::MARK, ..])
 }
 
 // Writes what a frame says, or why it is none.
@@ -130,67 +123,54 @@ fn put_frame(bytes: &[u8], buffer: &mut [u8]) -> usize
 }
 
 // Writes what a line spells.
-fn put_found(s: Line, buffer: &mut [u8]) -> usize
-    requires { (s.size ≤ 20) × (length (found (spells s)) ≤ length buffer.old) }
-    ensures { Wrote (found (spells s)) buffer.old result buffer.new }
+// (d) It is no Text of its own: that would have a size, which nothing here asks for.
+fn put_found(line: &Line, buffer: &mut [u8]) -> usize
+    requires { length (found (spells line.now)) ≤ length buffer.old }
+    ensures { Wrote (found (spells line.now)) buffer.old result buffer.new }
 {
-    if s.hex & (s.high == 16) {
-        let bytes = s.bytes;
-        let size = s.size;
-        let at = put(b": ", buffer);
-        return at + put_frame(&bytes[..size], &mut buffer[at..]);
+    if line.is_hex() {
+        let at = ": ".put(buffer);
+        return at + put_frame(line.bytes(), &mut buffer[at..]);
     }
-    put(b": no hex", buffer)
+    ": no hex".put(buffer)
 }
 
 // Writes the line for a line of the text.
-fn put_line(s: Line, buffer: &mut [u8]) -> usize
-    requires { (s.size ≤ 20) × (length (told s) ≤ length buffer.old) }
-    ensures { Wrote (told s) buffer.old result buffer.new }
+// (d) It is no Text of its own: that would have a size, which nothing here asks for.
+fn put_line(line: &Line, buffer: &mut [u8]) -> usize
+    requires { length (told line.now) ≤ length buffer.old }
+    ensures { Wrote (told line.now) buffer.old result buffer.new }
 {
-    let a = put_named(b"line ", s.number, buffer);
-    let b = a + put_found(s, &mut buffer[a..]);
-    b + put(b"\n", &mut buffer[b..])
+    let a = ("line ", Decimal(line.number())).put(buffer);
+    let b = a + put_found(line, &mut buffer[a..]);
+    b + "\n".put(&mut buffer[b..])
 }
 
-// What some bytes leave: the line, and how much was written.
-#[derive(Clone, Copy)]
-pub struct Fed {
-    pub line: Line,
-    pub size: usize,
-}
-
-// Takes one character. A newline ends the line, which is told, and begins the next.
-fn step(s: Line, c: u8, buffer: &mut [u8]) -> Fed
-    requires { Held s × (s.number + 1 < 2 ^ 64) × (longest_line ≤ length buffer.old) }
-    ensures line_value { result.line ≡ stepped s c }
-    ensures wrote { Wrote (told_at s c) buffer.old result.size buffer.new }
+// Takes one character, and answers how much was written. A newline ends the line, which is told, and begins the next.
+#[tactic(auto, using(crate::proofs::Room::line_room_lem, text::proofs::Parts::wrote_none), unfolding(crate::specs::Line::stepped, crate::specs::Line::told_at))]
+fn step(line: &mut Line, c: u8, buffer: &mut [u8]) -> usize
+    requires { (line.old.number + 1 < 2 ^ 64) × (longest_line ≤ length buffer.old) }
+    ensures line_value { line.new ≡ stepped line.old c }
+    ensures wrote { Wrote (told_at line.old c) buffer.old result buffer.new }
 {
-    if c == 10 {
-        let size = put_line(s, buffer);
-        return Fed {
-            line: begin(s.number + 1),
-            size,
-        };
+    if c == b'\n' {
+        let size = put_line(line, buffer);
+        *line = Line::begin(line.number() + 1);
+        return size;
     }
-    Fed {
-        line: read(s, c),
-        size: 0,
-    }
+    line.read(c);
+    0
 }
 
-// Takes some bytes of the text, and tells the lines that end in them.
-pub fn feed(line: Line, bytes: &[u8], buffer: &mut [u8]) -> Fed
-    requires { Held line × (line.number + length bytes.now < 2 ^ 64) × (longest_line * length bytes.now ≤ length buffer.old) }
-    ensures line_value { result.line ≡ after line bytes.now }
-    ensures wrote { Wrote (printed line bytes.now) buffer.old result.size buffer.new }
+// Takes some bytes of the text, tells the lines that end in them, and answers how much was written.
+pub fn feed(line: &mut Line, bytes: &[u8], buffer: &mut [u8]) -> usize
+    requires { (line.old.number + length bytes.now < 2 ^ 64) × (longest_line * length bytes.now ≤ length buffer.old) }
+    ensures line_value { line.new ≡ after line.old bytes.now }
+    ensures wrote { Wrote (printed line.old bytes.now) buffer.old result buffer.new }
 {
-    let mut s = line;
     let mut at = 0;
-    for k in 0..bytes.len() {
-        let fed = step(s, bytes[k], &mut buffer[at..]);
-        s = fed.line;
-        at += fed.size;
+    for c in bytes {
+        at += step(line, *c, &mut buffer[at..]);
     }
-    Fed { line: s, size: at }
+    at
 }

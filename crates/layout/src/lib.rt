@@ -6,6 +6,7 @@ use station::Station;
 
 pub mod rules;
 
+// (a) Its two arrays stay side by side: `layout_of` and `system_of` promise one of these for each system, and back; a `System` keeps its links as callers hand them over.
 // A system with the messages of all links in one array, so that each is read and stored where it stands: of the link at place k how
 // many there are, and its messages from PLACES * k on, the used places first.
 #[derive(Clone, Copy)]

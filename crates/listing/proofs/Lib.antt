@@ -1,6 +1,6 @@
 -- The pieces of a listing make the listing; the scan of the search finds the verdict, and ends where it should.
 pub mod Answers
-pub mod LastLine
+pub mod Pieces
 pub mod Room
 pub mod Same
 pub mod Scan

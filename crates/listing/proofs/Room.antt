@@ -9,7 +9,7 @@ use Rattle.station.specs.declared.Station.{Station}
 use Rattle.election.specs.System.{no_station}
 use Rattle.election.specs.Listing.{up_word, down_word, none_word, end_word, refused_word, at_word, status, leader_of, vector_of, stamp_of, known_of, kept_of, station_line, station_lines, verdict, verdict_line, listing_of, end_line}
 use Rattle.text.specs.Numbers.{decimal, newline, vector}
-use Rattle.listing.specs.Pieces.{who, ends}
+use Rattle.listing.proofs.Pieces.{who, ends}
 use Rattle.election.specs.declared.Verdict.{Verdict}
 use Rattle.election.specs.declared.Verdict.TheVariants.{Dark, Agreed, AgreedDark, Split}
 use Rattle.listing.specs.Room.{ListingRoom, EndRoom}

@@ -3,14 +3,17 @@ use mathlib.Core.Path.{◌≡◌, refl, sym, ap, subst, ◌∙◌}
 use mathlib.Core.Logic.{◌⊎◌}
 use mathlib.Core.Logic.◌⊎◌.{inl, inr}
 use mathlib.Core.List.{List}
-use mathlib.Core.Bool.{Bool, true, false, not, ◌&&◌, ◌||◌, and-false, and-true, true≢false}
+use mathlib.Core.Bool.{Bool, true, false, cond, not, ◌&&◌, ◌||◌, and-false, and-true, true≢false}
+use Rattle.std.specs.Prelude.{Option, Some, None}
+use Rattle.std.proofs.lemmas.Option.{none-some}
 use Prim.Native.Nat.{ℕ, zero, suc, ◌+◌, ◌-◌, ◌<◌, ◌≤◌, min}
 use native.Mathlib.Decide.{dec_lt}
 use native.Mathlib.Numerals.{add-one}
 use native.Mathlib.Omega.{arith}
 use lib.Dec.{leb, ltb, eqb}
-use lib.ListN.{length, get_or, get_or-eq_default}
-use borrow.Author.Tests.{not-true, not-false, eqb-true, eqb-false, eq-eqb, ltb-true, lt-ltb, lt-leb}
+use lib.ListN.{length, get_or, take, get_or-eq_default}
+use lib.Seq.{length-take-le, get_or-take}
+use borrow.Author.Tests.{not-true, not-false, eqb-true, eqb-false, eq-eqb, ltb-true, lt-ltb, lt-leb, le-leb}
 use Rattle.lists.specs.Fold.{each}
 use Rattle.lists.specs.Test.{all_to}
 use Rattle.lists.proofs.Bools.{both, either, neither, false_unless}
@@ -27,7 +30,9 @@ use Rattle.election.specs.declared.Verdict.TheVariants.{Dark, Agreed, AgreedDark
 use Rattle.election.proofs.Places.{seat_at}
 use Rattle.election.proofs.Search.{split_disagree, disagree_split, stays_split, is-split, search_ends, ends_with}
 use Rattle.election.proofs.Verdicts.{up_at, a_leader_lem, some_up, all_trust_lem, no_agreement}
-use Rattle.listing.specs.Scan.{leaderless}
+use Rattle.listing.specs.Scan.{differs, ends_search}
+use Rattle.std.specs.Bool.{then_some}
+use Rattle.std.specs.Option.{option_or}
 
 -- what is known after k stations: the leader that all up ones trust, 0 where none is up
 pub record Seen (stations : List Station) (k l : ℕ) : Type 0 where
@@ -53,6 +58,10 @@ dark-verdict k stations e = rw e
 -- where the line is not split, the search ends at station n
 ended_at : (n : ℕ) (stations : List Station) (v : Verdict) → is_split v ≡ false → verdict n stations ≡ v → record { finding = v; ended = n } ≡ searched n stations
 ended_at n stations v e f = rw (f, (search_ends n stations).last (ap is_split f ∙ e))
+
+-- it is up and trusts nobody
+abbrev leaderless : Station → Bool
+leaderless x = x.up && eqb x.leader 0
 
 -- a station ends the search after up ones that trust l: it is up and trusts nobody, or another than l
 abbrev ends : ℕ → Station → Bool
@@ -169,3 +178,92 @@ module _ (n most : ℕ) (stations : List Station) (eight : length stations ≤ 8
           let gone : station_of stations l ≡ no_station = get_or-eq_default stations no_station {n = l - 1} (omega (arith, i, eight)) in
           rw gone (and-false (within 1 l n))
       go (no i) = rw (lt-leb l n (omega (arith, i, h, e)), and-false (leb 1 l))
+
+-- the leader that the scan keeps: none where no station is up
+abbrev pub led : Option ℕ → ℕ
+led None = 0
+led (Some l) = l
+
+pub record Kept (stations : List Station) (k : ℕ) (leader : Option ℕ) : Type 0 where
+  pub seen : Seen stations k (led leader)
+  pub some : (l : ℕ) → leader ≡ Some l → 1 ≤ l
+
+pub some-is : {k l : ℕ} → Some k ≡ Some l → k ≡ l
+some-is e = cc
+
+pub kept_none : (stations : List Station) → Kept stations 0 None
+kept_none stations = record { seen = seen_none stations; some = λ l e. absurd (none-some l e) }
+
+-- the test of the code is that of the scan
+ends-is : (o : Option ℕ) (x : Station) → ((l : ℕ) → o ≡ Some l → 1 ≤ l) → ends_search o x ≡ ends (led o) x
+ends-is None x h = go x.up (eqb x.leader 0)
+  where
+    go : (u e : Bool) → (u && (e || false)) ≡ (u && e || false)
+    go true true = refl
+    go true false = refl
+    go false e = refl
+ends-is (Some l) x h = rw (lt-ltb 0 l (h l refl)) (go x.up (eqb x.leader 0) (eqb x.leader l))
+  where
+    go : (u e d : Bool) → (u && (e || not d)) ≡ (u && e || not (cond u d true))
+    go true true d = refl
+    go true false d = refl
+    go false e d = refl
+
+-- the stations that have a place
+module _ (stations : List Station) (n most : ℕ) (eight : length stations ≡ 8) (e : most ≡ min n 8) where
+  abbrev seats : List Station
+  seats = take most stations
+
+  size : length seats ≡ most
+  size = length-take-le most stations (omega (arith, eight, e))
+
+  module _ (k : ℕ) (o : Option ℕ) (s : Kept stations k o) where
+    -- a station more, that does not end the search, and one that does
+    module _ (h : k < length seats) where
+      abbrev next : Station
+      next = get_or seats k no_station
+
+      same : next ≡ get_or stations k no_station
+      same = get_or-take most stations k no_station (omega (arith, size, h))
+
+      pub kept_turn : {m : Option ℕ} → ends_search o next ≡ false → m ≡ option_or (then_some next.up next.leader) o → Kept stations (k + 1) m
+      kept_turn e f = rw f (go next.up refl)
+        where
+          turn : Seen stations (k + 1) (leader_after next (led o))
+          turn = rw same (seen-turn stations k (led o) s.seen (rw same at (sym (ends-is o next s.some) ∙ e)))
+
+          go : (u : Bool) → next.up ≡ u → Kept stations (k + 1) (option_or (then_some u next.leader) o)
+          go true u =
+              let f = neither (eqb next.leader 0) (differs o next.leader) (rw u at e) in
+              record { seen = rw u at turn; some = λ l g. omega (arith, eqb-false next.leader 0 f.0, some-is g) }
+          go false u = record { seen = rw u at turn; some = s.some }
+
+      pub kept-split : ends_search o next ≡ true → record { finding = Split; ended = k + 1 } ≡ searched n stations
+      kept-split t = seen-split stations k (led o) s.seen n (omega (arith, size, h, e)) (rw same at (sym (ends-is o next s.some) ∙ t))
+
+    -- after the last one
+    module _ (a : k ≤ length seats) (b : length seats ≤ k) where
+      all : Seen stations n (led o)
+      all = seen_all n most stations (omega (arith, eight)) e k (led o) (omega (arith, size, a)) (omega (arith, size, b)) s.seen
+
+      pub kept-dark : o ≡ None → record { finding = Dark; ended = n } ≡ searched n stations
+      kept-dark f = seen-dark stations n (led o) all (rw f refl)
+
+      module _ {l : ℕ} (f : o ≡ Some l) where
+        some : 1 ≤ l
+        some = s.some l f
+
+        up : up_among n stations l ≡ (leb l (length seats) && (station_of seats l).up)
+        up = go (dec_lt most l)
+          where
+            go : Dec (most < l) → up_among n stations l ≡ (leb l (length seats) && (station_of seats l).up)
+            go (yes h) = up-out n most stations (omega (arith, eight)) e l h ∙ rw (size, lt-leb l most h) refl
+            go (no h) =
+                up_in n most stations (omega (arith, eight)) e l some (omega (arith, h))
+                ∙ rw (size, le-leb l most (omega (arith, h)), get_or-take most stations (l - 1) no_station (omega (arith, h, some))) refl
+
+        pub kept-agreed : (leb l (length seats) && (station_of seats l).up) ≡ true → record { finding = Agreed l; ended = n } ≡ searched n stations
+        kept-agreed t = seen-agreed stations n l (rw f at all) some (up ∙ t)
+
+        pub kept-agreed_dark : (leb l (length seats) && (station_of seats l).up) ≡ false → record { finding = AgreedDark l; ended = n } ≡ searched n stations
+        kept-agreed_dark t = seen-agreed_dark stations n l (rw f at all) some (up ∙ t)

@@ -1,4 +1,3 @@
--- The parts of a listing that the code writes in one go, how long it can get, and what the search asks of a station.
-pub mod Pieces
+-- How long a listing can get, and what the search asks of a station.
 pub mod Room
 pub mod Scan

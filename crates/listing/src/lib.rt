@@ -5,32 +5,36 @@
 ghost use Rattle.std.specs.Prelude.{◌≡◌};
 ghost use Rattle.election.specs.Listing.{listed, said};
 
-use crate::rules::put_listing;
-use crate::search::search;
-use crate::sizes::listing_size;
-use election::{Answer, Refusal, System};
+use crate::shown::Shown;
+use election::{Refusal, System};
 use soundness::sound;
+use text::rules::Text;
 
+mod parts;
 pub mod rules;
 pub mod search;
-mod sizes;
+pub mod shown;
 
 // Writes the listing of a system into the front of the buffer, or leaves the buffer as it is.
-pub fn listing(s: System, buffer: &mut [u8]) -> Answer
-    ensures { said result buffer.new ≡ listed s buffer.old }
+pub fn listing(s: &System, buffer: &mut [u8]) -> Result<usize, Refusal>
+    ensures { said result buffer.new ≡ listed s.now buffer.old }
 {
     if !sound(s) {
-        return Answer::Refused(Refusal::Unsound);
+        return Err(Refusal::Unsound);
     }
     if !s.ready {
-        return Answer::Refused(Refusal::NotSetUp);
+        return Err(Refusal::NotSetUp);
     }
-    let stations = s.stations;
-    let sent = s.sent;
-    let found = search(s.n, stations);
-    let v = found.finding;
-    if buffer.len() < listing_size(s, v) {
-        return Answer::Refused(Refusal::BufferShort);
+    let text = Shown {
+        clock: s.clock,
+        n: s.n,
+        tick: s.tick,
+        stations: &s.stations,
+        sent: &s.sent,
     }
-    Answer::Done(put_listing(s.clock, s.n, s.tick, stations, sent, v, buffer))
+    .text();
+    if buffer.len() < text.size() {
+        return Err(Refusal::BufferShort);
+    }
+    Ok(text.put(buffer))
 }

@@ -1,76 +1,48 @@
 // The search for agreement: one scan over the stations.
-ghost use Rattle.std.specs.Prelude.{◌≡◌, min};
-ghost use Rattle.election.specs.Listing.{trusts, leader_after};
+ghost use Rattle.std.specs.Prelude.{◌≡◌, ◌≤◌, ◌&&◌, length, leb};
+ghost use Rattle.election.specs.System.{station_of};
 ghost use Rattle.election.specs.Search.{searched};
-ghost use Rattle.listing.specs.Scan.{leaderless};
+ghost use Rattle.listing.specs.Scan.{ends_search};
 
 use election::{Searched, Verdict};
 use station::Station;
 
-// Whether a station trusts l, if it is up.
-fn trusts(x: Station, l: u8) -> bool
-    ensures { result ≡ trusts l x }
+// Whether a station ends the search: it is up, and trusts nobody or another leader than the up ones before it.
+fn ends_search(x: &Station, leader: Option<u8>) -> bool
+    ensures { result ≡ ends_search leader x.now }
 {
-    if x.up { x.leader == l } else { true }
+    x.up && (x.leader == 0 || leader.is_some_and(|l| x.leader != l))
 }
 
-// Whether a station is up and trusts nobody.
-fn leaderless(x: Station) -> bool
-    ensures { result ≡ leaderless x }
+// Whether the station of a number is one of these, and up.
+fn is_up(seats: &[Station], number: u8) -> bool
+    requires { 1 ≤ number }
+    ensures { result ≡ (leb number (length seats.now) && (station_of seats.now number).up) }
 {
-    x.up & (x.leader == 0)
-}
-
-// The leader of a station that is up, or the one before it.
-fn leader_after(x: Station, l: u8) -> u8
-    ensures { result ≡ leader_after x l }
-{
-    if x.up { x.leader } else { l }
-}
-
-// How many of the first n stations have a place in the table.
-fn seats(n: u8) -> u8
-    ensures { result ≡ min n 8 }
-{
-    if n < 8 { n } else { 8 }
+    usize::from(number) <= seats.len() && seats[usize::from(number) - 1].up
 }
 
 // Searches the first n stations for agreement; those past the table count as down. The scan ends at the first up station that trusts nobody or
 // another leader than the up ones before it, else at station n.
-pub fn search(n: u8, stations: [Station; 8]) -> Searched
-    ensures { result ≡ searched n stations }
+pub fn search(n: u8, stations: &[Station; 8]) -> Searched
+    ensures { result ≡ searched n stations.now }
 {
-    let most = seats(n);
-    // the leader that the up ones of the stations so far trust, 0 if none is up
-    let mut l = 0;
-    for k in 0..most as usize {
-        let p = k as u8 + 1;
-        let x = stations[k];
-        if leaderless(x) | ((0 < l) & !trusts(x, l)) {
+    let seats = &stations[..usize::from(n.min(8))];
+    // the leader that the up ones of the stations so far trust
+    let mut leader = None;
+    for (k, x) in seats.iter().enumerate() {
+        if ends_search(x, leader) {
             return Searched {
                 finding: Verdict::Split,
-                ended: p,
+                ended: k as u8 + 1,
             };
         }
-        l = leader_after(x, l);
+        leader = x.up.then_some(x.leader).or(leader);
     }
-    if l == 0 {
-        return Searched {
-            finding: Verdict::Dark,
-            ended: n,
-        };
-    }
-    if l <= most {
-        let leader = stations[(l - 1) as usize];
-        if leader.up {
-            return Searched {
-                finding: Verdict::Agreed(l),
-                ended: n,
-            };
-        }
-    }
-    Searched {
-        finding: Verdict::AgreedDark(l),
-        ended: n,
-    }
+    let finding = match leader {
+        None => Verdict::Dark,
+        Some(l) if is_up(seats, l) => Verdict::Agreed(l),
+        Some(l) => Verdict::AgreedDark(l),
+    };
+    Searched { finding, ended: n }
 }

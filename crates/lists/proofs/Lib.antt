@@ -7,6 +7,7 @@ pub mod Filter
 pub mod First
 pub mod Fold
 pub mod Largest
+pub mod Places
 pub mod Segment
 pub mod Sets
 pub mod Test

@@ -1,12 +1,11 @@
 -- The station operations of a head with flash ("Station operation" of document 01): the refusals in their order, then the rule.
-use Rattle.std.specs.Prelude.{List, [], ◌∷◌, Bool, false, cond, not, ◌&&◌, ℕ, eqb, ltb}
+use Rattle.std.specs.Prelude.{List, [], ◌∷◌, Bool, false, cond, not, ◌&&◌, ℕ, eqb, ltb, Result, Ok, Err}
 use Rattle.lists.specs.First.{first_failed}
 use Rattle.fit.specs.Fit.{fit_start, fit_crash, fit_hear, fit_expire, fit_slot}
 use Rattle.station.specs.Limits.{most_starts}
 use Rattle.station.specs.Rules.{started, crashed, heard, expired, slotted, sends}
-use Rattle.operations.specs.declared.Answer.{Answer}
-use Rattle.operations.specs.declared.Answer.TheVariants.{Accepted, Up, WornOut, Unfit}
-use Rattle.operations.specs.declared.Outcome.{Outcome}
+use Rattle.operations.specs.declared.Refusal.{Refusal}
+use Rattle.operations.specs.declared.Refusal.TheVariants.{Up, WornOut, Unfit}
 use Rattle.station.specs.declared.Station.{Station}
 
 -- what an operation gives: the refusal, 0 for none; whether LEADER is sent; the station
@@ -42,12 +41,18 @@ unfoldable pub slotting : List ℕ → ℕ → ℕ → ℕ → ℕ → Station �
 slotting ranks me n period tick s =
     operation (first_failed ((fit_slot ranks me n period tick s, 15) ∷ [])) (sends me s) (slotted period tick s) s
 
--- document 01's number for each answer
-abbrev pub refusal_of : Answer → ℕ
-refusal_of Accepted = 0
-refusal_of Up = 8
-refusal_of WornOut = 10
-refusal_of Unfit = 15
+-- document 01's number of a refusal
+abbrev pub number_of : Refusal → ℕ
+number_of Up = 8
+number_of WornOut = 10
+number_of Unfit = 15
 
-abbrev pub said : Outcome → Operation
-said r = record { refusal = refusal_of r.answer; sending = r.sends; station = r.station }
+-- an answer, with the station as it is then
+abbrev pub done : Result (Unit {0}) Refusal → Station → Operation
+done (Ok answer) s = record { refusal = 0; sending = false; station = s }
+done (Err why) s = record { refusal = number_of why; sending = false; station = s }
+
+-- .. where it says whether LEADER is sent
+abbrev pub sent : Result Bool Refusal → Station → Operation
+sent (Ok sending) s = record { refusal = 0; sending = sending; station = s }
+sent (Err why) s = record { refusal = number_of why; sending = false; station = s }

@@ -1,115 +1,106 @@
 // The open operations of a head with flash: each tests what it is handed, and refuses or does what the rule says. Where candidates are compared,
-// the ranks of all stations are handed over too, station 1 first; a station holds none. Answer and Outcome serve both kinds of head; the operations of one with a
+// the ranks of all stations are handed over too, station 1 first; a station holds none. Refusal serves both kinds of head; the operations of one with a
 // running clock are in crates/clock.
 #![tactic(auto)]
 
-ghost use Rattle.std.specs.Prelude.{◌≡◌, false};
-ghost use Rattle.operations.specs.Operations.{refusal_of, said, starting, crashing, hearing, expiring, slotting};
+ghost use Rattle.std.specs.Prelude.{◌≡◌};
+ghost use Rattle.operations.specs.Operations.{number_of, done, sent, starting, crashing, hearing, expiring, slotting};
 
-use station::{Station, rules};
+use fit::{fit_crash, fit_expire, fit_hear, fit_slot, fit_start};
+use station::{Seat, Station};
 
-// Accepted, or why not: a start found the station up, or its count at 4095; or no sound system
-// could hand over these values.
-#[derive(Clone, Copy)]
-pub enum Answer {
-    Accepted,
+// Why an operation is turned down: a start found the station up, or its count at 4095; or no sound system
+// could hand over these values. The station stays as it was.
+#[derive(Clone, Copy, Debug, PartialEq, Eq)]
+pub enum Refusal {
     Up,
     WornOut,
     Unfit,
 }
 
-// The answer, whether LEADER is to be sent, and the station.
-#[derive(Clone, Copy)]
-pub struct Outcome {
-    pub answer: Answer,
-    pub sends: bool,
-    pub station: Station,
+impl Refusal {
+    // Document 01's number.
+    pub fn number(self) -> u8
+        ensures { result ≡ number_of self }
+    {
+        match self {
+            Refusal::Up => 8,
+            Refusal::WornOut => 10,
+            Refusal::Unfit => 15,
+        }
+    }
 }
 
-// The outcome of an operation that is accepted.
-pub fn accepted(sends: bool, station: Station) -> Outcome
-    ensures { said result ≡ record { refusal = 0; sending = sends; station = station } }
+// Starts a station at a tick.
+#[tactic(auto, using(fit::proofs::Safe::start_safe), unfolding(crate::specs::Operations::starting))]
+pub fn start(station: &mut Station, seat: Seat, tick: u32) -> Result<(), Refusal>
+    ensures { done result station.new ≡ starting seat.me seat.n seat.period tick station.old }
 {
-    Outcome {
-        answer: Answer::Accepted,
-        sends,
-        station,
+    if !fit_start(seat, tick, station) {
+        return Err(Refusal::Unfit);
     }
+    if station.up {
+        return Err(Refusal::Up);
+    }
+    if station.incarnation >= 4095 {
+        return Err(Refusal::WornOut);
+    }
+    station.start(seat, tick);
+    Ok(())
 }
 
-// The outcome of an operation that is turned down: the station comes back as it was.
-pub fn refused(answer: Answer, station: Station) -> Outcome
-    ensures { said result ≡ record { refusal = refusal_of answer; sending = false; station = station } }
+// Crashes a station at a tick.
+#[tactic(auto, unfolding(crate::specs::Operations::crashing))]
+pub fn crash(station: &mut Station, seat: Seat, tick: u32) -> Result<(), Refusal>
+    ensures { done result station.new ≡ crashing seat.me seat.n seat.period tick station.old }
 {
-    Outcome {
-        answer,
-        sends: false,
-        station,
+    if !fit_crash(seat, tick, station) {
+        return Err(Refusal::Unfit);
     }
+    station.crash();
+    Ok(())
 }
 
-// Starts station me of n at a tick.
-#[tactic(auto, unfolding(crate::specs::Operations::starting))]
-pub fn start(me: u8, n: u8, period: u32, tick: u32, s: Station) -> Outcome
-    ensures { said result ≡ starting me n period tick s }
-{
-    if !fit::fit_start(me, n, period, tick, s) {
-        return refused(Answer::Unfit, s);
-    }
-    if s.up {
-        return refused(Answer::Up, s);
-    }
-    if 4095 <= s.incarnation {
-        return refused(Answer::WornOut, s);
-    }
-    accepted(false, rules::start(me, n, period, tick, s))
-}
-
-// Crashes station me of n at a tick.
-pub fn crash(me: u8, n: u8, period: u32, tick: u32, s: Station) -> Outcome
-    ensures { said result ≡ crashing me n period tick s }
-{
-    if !fit::fit_crash(me, n, period, tick, s) {
-        return refused(Answer::Unfit, s);
-    }
-    accepted(false, rules::crash(s))
-}
-
-// Has station me of n hear LEADER from q, with the counts v, in a tick.
+// Has a station hear LEADER from another, with its counts, in a tick.
+#[tactic(auto, using(fit::proofs::Safe::hear_safe), unfolding(crate::specs::Operations::hearing))]
 pub fn hear(
-    ranks: [u8; 8],
-    me: u8,
-    n: u8,
-    period: u32,
+    station: &mut Station,
+    ranks: &[u8; 8],
+    seat: Seat,
     tick: u32,
-    q: u8,
-    v: [u16; 8],
-    s: Station,
-) -> Outcome
-    ensures { said result ≡ hearing ranks me n period tick q v s }
+    from: u8,
+    counts: &[u16; 8],
+) -> Result<(), Refusal>
+    ensures { done result station.new ≡ hearing ranks.now seat.me seat.n seat.period tick from counts.now station.old }
 {
-    if !fit::fit_hear(ranks, me, n, period, tick, q, v, s) {
-        return refused(Answer::Unfit, s);
+    if !fit_hear(ranks, seat, tick, from, counts, station) {
+        return Err(Refusal::Unfit);
     }
-    accepted(false, rules::hear(ranks, me, q, v, tick, s))
+    station.hear(ranks, seat.me, from, counts, tick);
+    Ok(())
 }
 
-// Ends the timer of station me of n in a tick.
-pub fn expire(me: u8, n: u8, period: u32, tick: u32, s: Station) -> Outcome
-    ensures { said result ≡ expiring me n period tick s }
+// Ends a station's timer in a tick.
+#[tactic(auto, using(fit::proofs::Safe::expire_safe), unfolding(crate::specs::Operations::expiring))]
+pub fn expire(station: &mut Station, seat: Seat, tick: u32) -> Result<(), Refusal>
+    ensures { done result station.new ≡ expiring seat.me seat.n seat.period tick station.old }
 {
-    if !fit::fit_expire(me, n, period, tick, s) {
-        return refused(Answer::Unfit, s);
+    if !fit_expire(seat, tick, station) {
+        return Err(Refusal::Unfit);
     }
-    accepted(false, rules::expire(me, s))
+    station.expire(seat.me);
+    Ok(())
 }
 
-// Gives station me of n its send chance in a tick.
-pub fn slot(ranks: [u8; 8], me: u8, n: u8, period: u32, tick: u32, s: Station) -> Outcome
-    ensures { said result ≡ slotting ranks me n period tick s }
+// Gives a station its send chance in a tick, and answers whether LEADER is sent.
+#[tactic(auto, using(fit::proofs::Safe::slot_safe), unfolding(crate::specs::Operations::slotting))]
+pub fn slot(station: &mut Station, ranks: &[u8; 8], seat: Seat, tick: u32) -> Result<bool, Refusal>
+    ensures { sent result station.new ≡ slotting ranks.now seat.me seat.n seat.period tick station.old }
 {
-    if !fit::fit_slot(ranks, me, n, period, tick, s) {
-        return refused(Answer::Unfit, s);
+    if !fit_slot(ranks, seat, tick, station) {
+        return Err(Refusal::Unfit);
     }
-    accepted(s.leader == me, rules::slot(period, tick, s))
+    let sends = station.leader == seat.me;
+    station.slot(seat.period, tick);
+    Ok(sends)
 }

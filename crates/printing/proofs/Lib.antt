@@ -1,3 +1,2 @@
--- What was printed of the listings, and what is printed after them.
-pub mod After
+-- What was printed of the listings.
 pub mod Going

@@ -1,2 +1,2 @@
--- The listings of a schedule, printed.
+-- The listings of a schedule.
 pub mod Listings

@@ -2,4 +2,3 @@
 #![tactic(auto)]
 
 pub mod rules;
-pub mod stop;

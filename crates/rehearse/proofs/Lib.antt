@@ -1,2 +1,3 @@
--- What the program prints.
+-- What the program prints, and how it ended.
 pub mod Printed
+pub mod Ran

@@ -1,56 +1,37 @@
 // All that is printed for a schedule: its listings, then the last line.
-ghost use Rattle.std.specs.Prelude.{◌≡◌, ◌+◌, ◌<◌, ◌≤◌, ◌^◌, length, take};
 ghost use Rattle.std.specs.Io.KnownBytes.{Appends};
+ghost use Rattle.calls.specs.Moved.{TakenTo};
 ghost use Rattle.election.specs.Listing.{output};
-ghost use Rattle.rehearse.specs.Moves.{Next};
-ghost use Rattle.calls.specs.Calls.{Taken};
-ghost use Rattle.calls.specs.Next.{part};
 
-use calls::rules::write_text;
+use calls::{Cut, write_whole};
+use election::{Refusal, Stopped};
 use listing::rules::ending::write_end;
-use printing::rules::print_listings;
-use printing::stop::refusal_of;
+use printing::rules::{Listed, print_listings};
 use std::io::Write;
 
-// Prints what comes next for the schedule, in as many writes as it takes; answers whether all of it was taken. Nothing in the
-// program but this and `print_listings` writes to standard output.
-fn print<W: Write>(
-    writer: &mut W,
-    bytes: &[u8],
-    text: &[u8],
-    done: &mut usize,
-    put: &mut Option<usize>,
-) -> bool
-    requires next { Next bytes.now done.old text.now }
-    requires text_bound { done.old + length text.now < 2 ^ 64 }
-    ensures taken { Taken result put.new done.new (done.old + length text.now) }
-    ensures counted { done.old ≤ done.new }
-    ensures bytes { Appends (W.contents writer.old) (W.contents writer.new) (part (output bytes.now) done.old done.new) }
+// Prints what a schedule gives, from the fresh system. Where a write fails, a front of that was printed, and the cut counts its bytes.
+// Nothing else in the program writes to standard output.
+pub fn rehearse<W: Write>(writer: &mut W, bytes: &[u8]) -> Result<(), Cut>
+    ensures { TakenTo result (output bytes.now) (Appends (W.contents writer.old) (W.contents writer.new)) }
 {
-    write_text(writer, text, done, put)
-}
-
-// Prints what a schedule gives, from the fresh system; answers whether all of it was taken.
-pub fn rehearse<W: Write>(
-    writer: &mut W,
-    bytes: &[u8],
-    done: &mut usize,
-    put: &mut Option<usize>,
-) -> bool
-    requires { done.old ≡ 0 }
-    ensures taken { Taken result put.new done.new (length (output bytes.now)) }
-    ensures bytes { Appends (W.contents writer.old) (W.contents writer.new) (take done.new (output bytes.now)) }
-{
-    let mut line = io::buffer();
-    if 65536 < bytes.len() {
-        let size = write_end(21, 0, &mut line);
-        return print(writer, bytes, &line[..size], done, put);
+    let listed = if bytes.len() > 65536 {
+        Listed {
+            size: 0,
+            ended: Err(Stopped {
+                at: 0,
+                refusal: Refusal::ScheduleLong,
+            }),
+        }
+    } else {
+        print_listings(writer, bytes)?
+    };
+    let mut line = [0; 4096];
+    let size = write_end(listed.ended, &mut line);
+    if let Err(cut) = write_whole(writer, &line[..size]) {
+        return Err(Cut {
+            at: listed.size + cut.at,
+            last: cut.last,
+        });
     }
-    let r = print_listings(writer, bytes, done, put);
-    if !r.whole {
-        return false;
-    }
-    let stop = r.stop;
-    let last = write_end(refusal_of(stop), r.at, &mut line);
-    print(writer, bytes, &line[..last], done, put)
+    Ok(())
 }

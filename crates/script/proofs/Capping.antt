@@ -10,10 +10,10 @@ use borrow.Author.Tests.{le-leb, lt-leb, leb-true}
 use lib.Dec.{leb}
 use lib.ListN.{length, get_or, take}
 use lib.Seq.{take-suc, take_all}
+use Rattle.std.specs.Prelude.{Some, None}
 use Rattle.fit.specs.Fit.{within}
 use Rattle.lists.proofs.Bools.{both, false_unless}
 use Rattle.script.specs.Decimals.{is_number, value_from, value_of, capped, valued}
-use Rattle.script.specs.declared.rules.numbers.Value.TheVariants.{Number, NotNumber}
 
 pub capped_small : (x : ℕ) → x ≤ 1000000 → capped x ≡ x
 capped_small x h = rw (le-leb x 1000000 h)
@@ -76,13 +76,13 @@ module _ {word : List ℕ} {i v : ℕ} (r : ReadTo word i v) where
         value = e ∙ ap (λ x. capped (10 * x + (get_or word i 0 - 48))) r.value ∙ capped-grown (value_of (take i word)) (get_or word i 0 - 48) ∙ ap capped (sym longer);
       }
 
-  pub read-other : i < length word → within 48 (get_or word i 0) 57 ≡ false → NotNumber ≡ valued word
+  pub read-other : i < length word → within 48 (get_or word i 0) 57 ≡ false → None ≡ valued word
   unfolding valued
   read-other h d = rw (false_unless (is_number word) (λ e. true≢false (sym (number_at word i h e) ∙ d)))
 
-  pub read_all : length word ≤ i → Number v ≡ valued word
+  pub read_all : length word ≤ i → Some v ≡ valued word
   unfolding valued
   read_all h =
       let all : take i word ≡ word = take_all i word h in
       let n : is_number word ≡ true = ap is_number (sym all) ∙ r.digits in
-      rw n (ap Number (r.value ∙ ap (λ w. capped (value_of w)) all))
+      rw n (ap Some (r.value ∙ ap (λ w. capped (value_of w)) all))

@@ -1,50 +1,24 @@
 -- Laws of the entry that the words of a line begin with, compared word by word.
 use mathlib.Core.Path.{◌≡◌, refl, sym, ap, ◌∙◌}
 use mathlib.Core.List.{List, [], ◌∷◌}
-use mathlib.Core.Bool.{Bool, true, false, ◌&&◌, false≢true}
+use mathlib.Core.Bool.{Bool, true, false}
 use Prim.Native.Nat.{ℕ, suc, ◌+◌, ◌-◌, ◌<◌, ◌≤◌}
-use native.Mathlib.Numerals.{add-one}
 use native.Mathlib.Omega.{arith}
-use borrow.Author.Tests.{eq-eqb, ne_eqb}
 use lib.Dec.{eqb}
-use lib.ListN.{length, get_or, take, drop, drop_of_length-le}
-use lib.Seq.{drop-cons}
-use Rattle.script.specs.Cursor.{Next, Beginning, Choice}
+use lib.ListN.{length, take, drop}
+use Rattle.script.specs.Cursor.{Next, Behind, Chose}
+use Rattle.std.specs.Prelude.{nat_eq}
+use lib.Pointwise.{pointwise}
 use Rattle.script.specs.Entries.{entries, entry, same, begins, first_from, chosen}
 use Rattle.script.specs.Split.{words}
 
--- words of different length are not the same
-pub same-lengths : (a b : List ℕ) → (length a ≡ length b → ⊥) → false ≡ same a b
+-- the words that `==` tells apart
+pub same_words : (a b : List ℕ) → pointwise nat_eq a b ≡ same a b
 unfolding same
-same-lengths [] [] h = absurd (h refl)
-same-lengths [] (d ∷ b) h = refl
-same-lengths (c ∷ a) [] h = refl
-same-lengths (c ∷ a) (d ∷ b) h = rw (sym (same-lengths a b (λ e. h (omega arith)))) (and_no (eqb c d))
-  where
-    and_no : (x : Bool) → false ≡ (x && false)
-    and_no true = refl
-    and_no false = refl
-
--- two words compared up to a place
-pub record SameTo (a b : List ℕ) (i : ℕ) : Type 0 where
-  pub is : same a b ≡ same (drop i a) (drop i b)
-  pub size : length a ≡ length b
-
-module _ {a b : List ℕ} {i : ℕ} (s : SameTo a b i) where
-  first : (l : List ℕ) → i < length l → drop i l ≡ get_or l i 0 ∷ drop (i + 1) l
-  first l h = rw add-one (drop-cons l i 0 h)
-
-  pub same_next : i < length a → get_or a i 0 ≡ get_or b i 0 → SameTo a b (i + 1)
-  unfolding same
-  same_next h e = record { is = s.is ∙ rw (first a h, first b (omega (arith, s.size)), eq-eqb _ _ e); size = s.size }
-
-  pub same_not : i < length a → (get_or a i 0 ≡ get_or b i 0 → ⊥) → false ≡ same a b
-  unfolding same
-  same_not h e = sym (s.is ∙ rw (first a h, first b (omega (arith, s.size)), ne_eqb _ _ e))
-
-  pub same-all : length a ≤ i → true ≡ same a b
-  unfolding same
-  same-all h = sym (s.is ∙ rw (drop_of_length-le a {i = i} h, drop_of_length-le b {i = i} (omega (arith, s.size))))
+same_words [] [] = refl
+same_words [] (d ∷ b) = refl
+same_words (c ∷ a) [] = refl
+same_words (c ∷ a) (d ∷ b) = rw (same_words a b)
 
 -- a name and a text compared up to a place of each
 pub record BegunTo (name text : List ℕ) (i at : ℕ) : Type 0 where
@@ -56,29 +30,29 @@ pub record BegunTo (name text : List ℕ) (i at : ℕ) : Type 0 where
 pub begun_none : (name text : List ℕ) → BegunTo name text 0 0
 begun_none name text = record { is = refl; behind = refl; within-name = omega arith; within = omega arith }
 
-module _ {name text : List ℕ} {i at : ℕ} (b : BegunTo name text i at) {start end : ℕ} (n : Next name i start end) where
-  pub begun_all : start ≡ end → Beginning name text true at
+module _ {name text : List ℕ} {i at : ℕ} (b : BegunTo name text i at) where
+  pub begun_all : words (drop i name) ≡ [] → Behind name text at
   unfolding begins
-  begun_all e = record { is = sym (b.is ∙ rw (n.none e)); within = b.within; behind = λ _. sym (b.behind ∙ rw (n.none e)) }
+  begun_all e = record { is = b.is ∙ rw e; within = b.within; behind = sym (b.behind ∙ rw e) }
 
-  module _ (some : start < end) {first last : ℕ} (w : Next text at first last) where
-    pub begun_short : first ≡ last → Beginning name text false 0
+  module _ {start end : ℕ} (n : Next name i start end × (start < end)) where
+    pub begun_short : words (drop at text) ≡ [] → begins (words name) (words text) ≡ false
     unfolding begins
-    begun_short e = record { is = sym (b.is ∙ rw (n.one some, w.none e)); within = omega arith; behind = λ t. absurd (false≢true t) }
+    begun_short e = b.is ∙ rw (n.0.one n.1, e)
 
-    module _ (more : first < last) {r : Bool} (c : r ≡ same (take (end - start) (drop start name)) (take (last - first) (drop first text))) where
-      pub begun_other : r ≡ false → Beginning name text false 0
+    module _ {first last : ℕ} (w : Next text at first last × (first < last)) {r : Bool} (c : r ≡ same (take (end - start) (drop start name)) (take (last - first) (drop first text))) where
+      pub begun_other : r ≡ false → begins (words name) (words text) ≡ false
       unfolding begins
-      begun_other f = record { is = sym (b.is ∙ rw (n.one some, w.one more, ← c, f)); within = omega arith; behind = λ t. absurd (false≢true t) }
+      begun_other f = b.is ∙ rw (n.0.one n.1, w.0.one w.1, ← c, f)
 
       pub begun_next : r ≡ true → BegunTo name text end last
       unfolding begins
       begun_next t =
           record {
-            is = b.is ∙ rw (n.one some, w.one more, ← c, t);
-            behind = b.behind ∙ rw (n.one some, w.one more);
-            within-name = n.within;
-            within = w.within;
+            is = b.is ∙ rw (n.0.one n.1, w.0.one w.1, ← c, t);
+            behind = b.behind ∙ rw (n.0.one n.1, w.0.one w.1);
+            within-name = n.0.within;
+            within = w.0.within;
           }
 
 -- the entries up to k were tried
@@ -93,26 +67,24 @@ one_left : (k : ℕ) → k < entries → entries - k ≡ suc (entries - (k + 1))
 one_left k h = omega arith
 
 module _ {text : List ℕ} {k : ℕ} (t : TriedTo text k) where
-  module _ (h : k < entries) {name : List ℕ} (e : name ≡ (entry k).name) {found : Bool} {at : ℕ} (b : Beginning name text found at) where
-    here : begins (words (entry k).name) (words text) ≡ found
-    here = sym (b.is ∙ ap (λ l. begins (words l) (words text)) e)
-
-    pub tried-next : found ≡ false → TriedTo text (k + 1)
+  module _ (h : k < entries) {name : List ℕ} (e : name ≡ (entry k).name) where
+    pub tried-next : begins (words name) (words text) ≡ false → TriedTo text (k + 1)
     unfolding first_from
-    tried-next f = record { is = t.is ∙ rw (one_left k h, here, f); few = omega arith }
+    tried-next b =
+        let here : begins (words (entry k).name) (words text) ≡ false = ap (λ l. begins (words l) (words text)) (sym e) ∙ b in
+        record { is = t.is ∙ rw (one_left k h, here); few = omega arith }
 
-    pub tried-found : found ≡ true → Choice text k at
+    pub tried-found : {at : ℕ} → Behind name text at → Chose text k at
     unfolding first_from
-    tried-found f =
+    tried-found b =
+        let here : begins (words (entry k).name) (words text) ≡ true = ap (λ l. begins (words l) (words text)) (sym e) ∙ b.is in
         record {
-          is = sym (t.is ∙ rw (one_left k h, here, f));
-          known = omega arith;
+          is = sym (t.is ∙ rw (one_left k h, here));
+          known = h;
           within = b.within;
-          behind = λ _. b.behind f ∙ ap (λ l. drop (length (words l)) (words text)) e;
+          behind = b.behind ∙ ap (λ l. drop (length (words l)) (words text)) e;
         }
 
-  pub tried-all : entries ≤ k → Choice text entries 0
+  pub tried-all : entries ≤ k → chosen (words text) ≡ entries
   unfolding first_from
-  tried-all h =
-      let last : k ≡ entries = omega (arith, t.few) in
-      record { is = sym (t.is ∙ rw last); known = omega arith; within = omega arith; behind = λ l. absurd (omega arith) }
+  tried-all h = let last : k ≡ entries = omega (arith, t.few) in t.is ∙ rw last

@@ -5,13 +5,14 @@ use Prim.Native.Nat.{ℕ, ◌+◌, ◌-◌, ◌<◌, ◌≤◌}
 use native.Mathlib.Omega.{arith}
 use lib.ListN.{length, get_or, take, drop, length-drop}
 use borrow.Rule.Slice.PartMut.{put_mid}
+use Rattle.std.specs.Prelude.{Result, Ok, Err}
 use Rattle.text.specs.Wrote.{Wrote}
 use Rattle.text.proofs.Parts.{wrote_none, wrote_part, wrote_length}
 use Rattle.election.specs.Commands.{decode, operands}
 use Rattle.script.specs.Pieces.{found, whole, text_of, HasText}
 use Rattle.script.specs.Shown.{line_of, Showing, Text, NoneAt, behind}
-use Rattle.script.specs.declared.rules.showing.Found.{Found}
-use Rattle.script.specs.declared.rules.showing.Found.TheVariants.{Line, Stop}
+use Rattle.script.specs.declared.NoText.{NoText}
+use Rattle.script.specs.declared.rules.showing.Piece.{Piece}
 use Rattle.script.proofs.Onward.{led, Here, here, rest, next, rest-none, turn, lent, lent_width}
 
 -- a text behind another, and both behind a third
@@ -45,13 +46,13 @@ module _ (bytes old : List ℕ) (at size : ℕ) (buffer : List ℕ) (f : Filling
 
   module _ (ok : HasText (whole (length old) bytes)) (more : at < length bytes) where
     -- the command there has a line that fits, and leads on
-    lined : (g : Found) → found (length old - size) (drop at bytes) ≡ g
+    lined : (g : Result Piece NoText) → found (length old - size) (drop at bytes) ≡ g
         → Here (length old - size) (drop at bytes) (1 + operands (decode (drop at bytes))) (length (line_of (decode (drop at bytes))))
         × (rest (length old) bytes at size ≡ behind (line_of (decode (drop at bytes))) (next (length old) bytes at size))
-    lined (Line w n) e =
-        let h : Here (length old - size) (drop at bytes) w n = here (length old - size) (drop at bytes) w n e in
+    lined (Ok p) e =
+        let h : Here (length old - size) (drop at bytes) p.width p.size = here (length old - size) (drop at bytes) p e in
         (record { width = refl; size = refl; enough = h.enough; fits = h.fits }, turn (length old) bytes at size more f.fits ∙ ap (led at _) e)
-    lined (Stop why) e =
+    lined (Err why) e =
         let n : rest (length old) bytes at size ≡ NoneAt at why = turn (length old) bytes at size more f.fits ∙ ap (led at _) e in
         let m : NoneAt at why ≡ Text (text_of (whole (length old) bytes)) = sym (ap (behind f.text) n) ∙ f.leads ∙ ok in
         let z : ◌≡◌ {A = ℕ} 0 1 = cc in

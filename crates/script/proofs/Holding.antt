@@ -5,12 +5,14 @@ use Prim.Native.Nat.{ℕ, ◌+◌, ◌<◌, ◌≤◌}
 use native.Mathlib.Omega.{arith}
 use borrow.Author.Tests.{lt-ltb, le-ltb}
 use lib.ListN.{length, drop, drop_of_length-le}
+use Rattle.std.specs.Prelude.{Result}
 use Rattle.script.specs.Assembled.{commands_of, of_line}
 use Rattle.script.specs.Encoded.{encode_all}
 use Rattle.script.specs.Meanings.{line_bytes}
 use Rattle.script.specs.Passes.{LineAt}
 use Rattle.script.specs.Places.{holding_from, line_holding}
 use Rattle.script.specs.Split.{lines}
+use Rattle.script.specs.declared.Why.{Why}
 use Rattle.script.specs.declared.rules.lines.Line.{Line}
 
 -- no line so far holds it
@@ -20,7 +22,7 @@ pub record NotTo (text : List ℕ) (offset at passed size : ℕ) : Type 0 where
   pub within : at ≤ length text
   pub few : passed ≤ at
 
-module _ {text : List ℕ} {offset at passed size : ℕ} (n : NotTo text offset at passed size) {l : Line} {next : ℕ} (here : LineAt text at l next) {more : ℕ} (count : more ≡ length (line_bytes l)) where
+module _ {text : List ℕ} {offset at passed size : ℕ} (n : NotTo text offset at passed size) {l : Result Line Why} {next : ℕ} (here : LineAt text at l next) {more : ℕ} (count : more ≡ length (line_bytes l)) where
   own-size : length (encode_all (commands_of (of_line here.own))) ≡ more
   own-size = ap (λ m. length (encode_all (commands_of m))) (sym here.reads.is) ∙ sym count
 

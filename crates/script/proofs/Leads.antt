@@ -5,11 +5,10 @@ use mathlib.Core.Logic.◌⊎◌.{inl, inr}
 use mathlib.Core.List.{List, [], ◌∷◌}
 use mathlib.Core.Bool.{Bool, true, false, cond, not, false≢true}
 use Prim.Native.Nat.{ℕ, suc, ◌+◌, ◌-◌, ◌<◌, ◌≤◌}
-use native.Mathlib.Numerals.{add-one}
 use native.Mathlib.Omega.{arith}
 use lib.Dec.{eqb}
-use lib.ListN.{length, get_or, take, drop, drop_of_length-le, length-drop}
-use lib.Seq.{drop-cons, drop-drop}
+use lib.ListN.{length, take, drop, length-drop}
+use lib.Seq.{drop-drop}
 use borrow.Author.Tests.{not-true}
 use Rattle.text.specs.Hex.{is_blank}
 use Rattle.script.specs.Cursor.{Next}
@@ -21,10 +20,6 @@ module _ (t : ℕ → Bool) where
   lead-yes : (c : ℕ) (cs : List ℕ) → t c ≡ true → lead t (c ∷ cs) ≡ c ∷ lead t cs
   unfolding lead
   lead-yes c cs e = rw e
-
-  lead-no : (c : ℕ) (cs : List ℕ) → t c ≡ false → lead t (c ∷ cs) ≡ []
-  unfolding lead
-  lead-no c cs e = rw e
 
   pub take_lead : (l : List ℕ) → take (length (lead t l)) l ≡ lead t l
   unfolding lead
@@ -52,29 +47,6 @@ module _ (t : ℕ → Bool) where
       at : (b : Bool) → length (lead t cs) ≤ length cs → length (cond b (c ∷ lead t cs) []) ≤ suc (length cs)
       at true h = omega arith
       at false h = omega arith
-
-  -- a loop that looks for the end: where it stands, the end is still ahead
-  pub record Ahead (text : List ℕ) (from at : ℕ) : Type 0 where
-    pub is : from + length (lead t (drop from text)) ≡ at + length (lead t (drop at text))
-    pub within : at ≤ length text
-
-  module _ {text : List ℕ} {from at : ℕ} (a : Ahead text from at) where
-    first : at < length text → drop at text ≡ get_or text at 0 ∷ drop (at + 1) text
-    first h = rw add-one (drop-cons text at 0 h)
-
-    pub ahead-next : at < length text → t (get_or text at 0) ≡ true → Ahead text from (at + 1)
-    ahead-next h e =
-        record {
-          is = a.is ∙ rw (first h, lead-yes (get_or text at 0) (drop (at + 1) text) e) (omega arith);
-          within = omega arith;
-        }
-
-    pub ahead-here : at < length text → t (get_or text at 0) ≡ false → at ≡ from + length (lead t (drop from text))
-    ahead-here h e = sym (a.is ∙ rw (first h, lead-no (get_or text at 0) (drop (at + 1) text) e) (omega arith))
-
-    pub ahead-end : length text ≤ at → at ≡ from + length (lead t (drop from text))
-    unfolding lead
-    ahead-end h = sym (a.is ∙ rw (drop_of_length-le text {i = at} h) (omega arith))
 
   -- where the part ends
   pub part_within : (text : List ℕ) (from end : ℕ) → from ≤ length text → end ≡ from + length (lead t (drop from text)) → end ≤ length text

@@ -23,5 +23,6 @@ pub mod ShownComputed
 pub mod Sizes
 pub mod Splitting
 pub mod Taking
+pub mod Told
 pub mod Values
 pub mod Worded

@@ -14,7 +14,7 @@ use Rattle.text.specs.Wrote.{Wrote}
 use Rattle.text.proofs.Parts.{wrote_none, wrote_part}
 use Rattle.script.specs.Encoded.{encode, encode_all}
 use Rattle.script.specs.Entries.{longest_run, runs, most_runs}
-use Rattle.script.specs.Meanings.{Proper, line_bytes, most_line_bytes}
+use Rattle.script.specs.Meanings.{ProperLine, bytes_of, most_line_bytes}
 use Rattle.script.specs.declared.rules.lines.Line.{Line}
 use Rattle.script.specs.declared.rules.lines.Line.TheVariants as code
 use Rattle.script.proofs.Cases.{ten}
@@ -95,9 +95,8 @@ runs-few (suc fuel) t = which (dec_lt longest_run t) (runs-few fuel (t - longest
     which (yes h) r = rw (lt-leb t longest_run h) (omega (arith, length-append (encode (Run longest_run)) (encode_all (runs fuel (t - longest_run))), length-encode (Run longest_run)))
     which (no h) r = rw (le-leb t longest_run (omega arith)) (omega (arith, length-append (encode (Run t)) [], length-encode (Run t)))
 
-pub line_room_lem : (line : Line) → Proper line → length (line_bytes line) ≤ most_line_bytes
+pub line_room_lem : (line : Line) → ProperLine line → length (bytes_of line) ≤ most_line_bytes
 unfolding encode_all
 line_room_lem code.Nothing p = omega arith
 line_room_lem (code.Command b x y z) p = omega (arith, length-append (encode (decode (b ∷ x ∷ y ∷ z ∷ []))) [], command-short b x y z p.0 p.1)
 line_room_lem (code.Run t) p = runs-few most_runs t
-line_room_lem (code.Wrong why) p = omega arith

@@ -7,6 +7,7 @@ use native.Mathlib.Omega.{arith}
 use lib.Dec.{eqb}
 use lib.ListN.{length, get_or}
 use borrow.Author.Tests.{le-leb, eqb-true, eqb-false}
+use Rattle.std.specs.Prelude.{Result, Ok}
 use Rattle.lists.specs.Every.{All}
 use Rattle.lists.proofs.Bools.{both, cond_elim, false_unless}
 use Rattle.lists.proofs.Every.{all_append, all_map, all_get}
@@ -20,8 +21,7 @@ use Rattle.script.specs.Decimals.{is_number, shift, numbers}
 use Rattle.script.specs.Entries.{Entry, longest_run, runs, table, none, entry, same, begins, first_from}
 use Rattle.script.specs.Shown.{entry_of, numbers_of, spaced, written, is_idle}
 use Rattle.script.specs.Split.{goes_on, words, inside, lead}
-use Rattle.script.specs.declared.rules.numbers.Numbers.{Numbers}
-use Rattle.script.specs.declared.rules.numbers.Numbers.TheVariants.{Three}
+use Rattle.script.specs.declared.Why.{Why}
 use Rattle.script.specs.declared.rules.words.Part.TheVariants.{Word, Uncommented, Line}
 use Rattle.script.proofs.Splitting.{Each, lead-each, lead-all, words_append, words-one}
 use Rattle.script.proofs.Values.{is_within, number_decimal, some_decimal, value_decimal, each-digit, digit-word, digit-uncommented, digit-line}
@@ -88,8 +88,8 @@ words-spaced [] = refl
 words-spaced (x ∷ xs) = words-before (decimal x) xs ∙ rw (words-decimal x, words-spaced xs)
 
 -- numbers in a range are read back
-abbrev three_of : List ℕ → Numbers
-three_of [] = Three 0 0 0
+abbrev three_of : List ℕ → Result (List ℕ) Why
+three_of [] = Ok (0 ∷ 0 ∷ 0 ∷ [])
 three_of (x ∷ xs) = shift x (three_of xs)
 
 numbers-read : (least most : ℕ) → most < 10 ^ 20 → (xs : List ℕ) → All (λ x. (least ≤ x) × (x ≤ most)) xs → numbers (length xs) least most (map decimal xs) ≡ three_of xs
@@ -101,13 +101,13 @@ numbers-read least most m (x ∷ xs) h =
 byte : (x : ℕ) → x < 256 → (0 ≤ x) × (x ≤ 255)
 byte x h = (omega arith, omega arith)
 
-one-read : (x : ℕ) → x < 256 → numbers 1 0 255 (decimal x ∷ []) ≡ Three x 0 0
+one-read : (x : ℕ) → x < 256 → numbers 1 0 255 (decimal x ∷ []) ≡ Ok (x ∷ 0 ∷ 0 ∷ [])
 one-read x h = numbers-read 0 255 (omega arith) (x ∷ []) (byte x h, tt)
 
-two_read : (x y : ℕ) → (x < 256) × (y < 256) → numbers 2 0 255 (decimal x ∷ decimal y ∷ []) ≡ Three x y 0
+two_read : (x y : ℕ) → (x < 256) × (y < 256) → numbers 2 0 255 (decimal x ∷ decimal y ∷ []) ≡ Ok (x ∷ y ∷ 0 ∷ [])
 two_read x y h = numbers-read 0 255 (omega arith) (x ∷ y ∷ []) (byte x h.0, (byte y h.1, tt))
 
-three-read : (x y z : ℕ) → (x < 256) × (y < 256) × (z < 256) → numbers 3 0 255 (decimal x ∷ decimal y ∷ decimal z ∷ []) ≡ Three x y z
+three-read : (x y z : ℕ) → (x < 256) × (y < 256) × (z < 256) → numbers 3 0 255 (decimal x ∷ decimal y ∷ decimal z ∷ []) ≡ Ok (x ∷ y ∷ z ∷ [])
 three-read x y z h = numbers-read 0 255 (omega arith) (x ∷ y ∷ z ∷ []) (byte x h.0, (byte y h.1, (byte z h.2, tt)))
 
 -- words that are the same

@@ -5,27 +5,26 @@ use Prim.Native.Nat.{ℕ, ◌+◌, ◌-◌, ◌<◌, ◌≤◌}
 use native.Mathlib.Nat.{add-zero, zero-add}
 use native.Mathlib.Omega.{arith}
 use lib.ListN.{length, take, drop, length-append, length-drop}
+use Rattle.std.specs.Prelude.{Result, Ok, Err}
 use Rattle.election.specs.Commands.{decode}
 use Rattle.script.specs.Pieces.{found, whole, answer_of}
-use Rattle.script.specs.Shown.{line_of, Showing, Text, NoneAt, behind}
+use Rattle.script.specs.Shown.{line_of, Showing, Text, NoneAt, behind, none_at}
 use Rattle.script.specs.declared.NoText.{NoText}
-use Rattle.script.specs.declared.Shown.{Shown}
-use Rattle.script.specs.declared.Shown.TheVariants.{Done, Refused}
-use Rattle.script.specs.declared.rules.showing.Found.{Found}
-use Rattle.script.specs.declared.rules.showing.Found.TheVariants.{Line, Stop}
+use Rattle.script.specs.declared.NoTextAt.{NoTextAt}
+use Rattle.script.specs.declared.rules.showing.Piece.{Piece}
 use Rattle.script.proofs.Onward.{led, Here, here, rest, next, rest-none, turn, lent_found}
 
 -- the answer, with so many characters before the text
-abbrev pub measured : ℕ → Showing → Shown
-measured size (Text t) = Done (size + length t)
-measured size (NoneAt at why) = Refused at why
+abbrev pub measured : ℕ → Showing → Result ℕ NoTextAt
+measured size (Text t) = Ok (size + length t)
+measured size (NoneAt at why) = none_at at why
 
 measured-zero : (s : Showing) → measured 0 s ≡ answer_of s
-measured-zero (Text t) = ap Done (zero-add (length t))
+measured-zero (Text t) = ap Ok (zero-add (length t))
 measured-zero (NoneAt at why) = refl
 
 measured-behind : (size : ℕ) (line : List ℕ) (s : Showing) → measured size (behind line s) ≡ measured (size + length line) s
-measured-behind size line (Text t) = ap Done (omega (arith, length-append line t))
+measured-behind size line (Text t) = ap Ok (omega (arith, length-append line t))
 measured-behind size line (NoneAt at why) = refl
 
 -- where measuring stands: an offset and so many characters before it; they lead to the answer
@@ -38,22 +37,22 @@ pub measuring_first : (room : ℕ) (bytes : List ℕ) → Measuring room bytes 0
 measuring_first room bytes = record { inside = omega arith; fits = omega arith; leads = measured-zero (whole room bytes) }
 
 module _ (room : ℕ) (bytes : List ℕ) (at size : ℕ) (m : Measuring room bytes at size) where
-  pub measured-end : length bytes ≤ at → Done size ≡ answer_of (whole room bytes)
-  measured-end h = ap Done (sym (add-zero size)) ∙ ap (measured size) (sym (rest-none room bytes at size h)) ∙ m.leads
+  pub measured-end : length bytes ≤ at → Ok size ≡ answer_of (whole room bytes)
+  measured-end h = ap Ok (sym (add-zero size)) ∙ ap (measured size) (sym (rest-none room bytes at size h)) ∙ m.leads
 
-  module _ (more : at < length bytes) (r : Found) (is : r ≡ found (room - size) (take (length bytes - at) (drop at bytes))) where
-    pub measured-stop : (why : NoText) → r ≡ Stop why → Refused at why ≡ answer_of (whole room bytes)
+  module _ (more : at < length bytes) (r : Result Piece NoText) (is : r ≡ found (room - size) (take (length bytes - at) (drop at bytes))) where
+    pub measured-stop : (why : NoText) → r ≡ Err why → none_at at why ≡ answer_of (whole room bytes)
     measured-stop why stop =
-        let e : found (room - size) (drop at bytes) ≡ Stop why = lent_found (room - size) bytes at is stop in
+        let e : found (room - size) (drop at bytes) ≡ Err why = lent_found (room - size) bytes at is stop in
         ap (measured size) (sym (turn room bytes at size more m.fits ∙ ap (led at _) e)) ∙ m.leads
 
-    pub wide : (w n : ℕ) → r ≡ Line w n → 0 < w
-    wide w n line = omega (arith, (here (room - size) (drop at bytes) w n (lent_found (room - size) bytes at is line)).width)
+    pub wide : (p : Piece) → r ≡ Ok p → 0 < p.width
+    wide p line = omega (arith, (here (room - size) (drop at bytes) p (lent_found (room - size) bytes at is line)).width)
 
-    pub measuring_on : (w n : ℕ) → r ≡ Line w n → Measuring room bytes (at + w) (size + n)
-    measuring_on w n line =
-        let e : found (room - size) (drop at bytes) ≡ Line w n = lent_found (room - size) bytes at is line in
-        let f : Here (room - size) (drop at bytes) w n = here (room - size) (drop at bytes) w n e in
+    pub measuring_on : (p : Piece) → r ≡ Ok p → Measuring room bytes (at + p.width) (size + p.size)
+    measuring_on p line =
+        let e : found (room - size) (drop at bytes) ≡ Ok p = lent_found (room - size) bytes at is line in
+        let f : Here (room - size) (drop at bytes) p.width p.size = here (room - size) (drop at bytes) p e in
         record {
           inside = omega (arith, f.width, f.enough, length-drop at bytes);
           fits = omega (arith, f.size, f.fits, m.fits);

@@ -10,6 +10,7 @@ use lib.Dec.{ltb}
 use lib.ListN.{length, get_or, take, drop, length-drop, drop_of_length-le}
 use lib.Seq.{drop-drop, take_all, get_or-drop}
 use borrow.Author.Tests.{lt-ltb, le-ltb, ltb-true, ltb-false}
+use Rattle.std.specs.Prelude.{Result, Ok, Err}
 use Rattle.fit.specs.Fit.{within}
 use Rattle.election.specs.Commands.{Command, decode, operands, last_command}
 use Rattle.decision.proofs.Bytes.{width_of}
@@ -17,8 +18,7 @@ use Rattle.script.specs.Pieces.{found_known, found}
 use Rattle.script.specs.Shown.{line_of, is_idle, Showing, Text, NoneAt, behind, showing}
 use Rattle.script.specs.declared.NoText.{NoText}
 use Rattle.script.specs.declared.NoText.TheVariants.{NoCommand, MissingOperand, NoTicks, BufferShort}
-use Rattle.script.specs.declared.rules.showing.Found.{Found}
-use Rattle.script.specs.declared.rules.showing.Found.TheVariants.{Line, Stop}
+use Rattle.script.specs.declared.rules.showing.Piece.{Piece}
 
 -- more commands than there are bytes don't matter
 fuel_more : (fuel at size room : ℕ) (bytes : List ℕ) → length bytes ≤ fuel → showing (suc fuel) at size room bytes ≡ showing fuel at size room bytes
@@ -39,9 +39,9 @@ left size room n h = go (dec_lt room (size + n))
     go (no l) = le-ltb room (size + n) (omega arith) ∙ sym (le-ltb (room - size) n (omega arith))
 
 -- what is found leads on, or stops
-abbrev pub led : ℕ → Showing → Found → Showing
-led at more (Line w n) = more
-led at more (Stop why) = NoneAt at why
+abbrev pub led : ℕ → Showing → Result Piece NoText → Showing
+led at more (Ok p) = more
+led at more (Err why) = NoneAt at why
 
 step : (fuel at size room b : ℕ) (bytes : List ℕ) → size ≤ room
     → showing (suc fuel) at size room (b ∷ bytes)
@@ -51,16 +51,16 @@ unfolding showing found found_known
 step fuel at size room b bytes h =
     let c : Command = decode (b ∷ bytes) in
     rw (left size room (length (line_of c)) h)
-    (go _ (1 + operands c) (length (line_of c)) (within 1 b last_command) (ltb (operands c) (length (b ∷ bytes))) (is_idle c) (ltb (room - size) (length (line_of c))))
+    (go _ (record { width = 1 + operands c; size = length (line_of c) }) (within 1 b last_command) (ltb (operands c) (length (b ∷ bytes))) (is_idle c) (ltb (room - size) (length (line_of c))))
   where
-    go : (more : Showing) (w n : ℕ) (t u i s : Bool)
+    go : (more : Showing) (p : Piece) (t u i s : Bool)
         → cond t (cond u (cond i (NoneAt at NoTicks) (cond s (NoneAt at BufferShort) more)) (NoneAt at MissingOperand)) (NoneAt at NoCommand)
-        ≡ led at more (cond t (cond u (cond i (Stop NoTicks) (cond s (Stop BufferShort) (Line w n))) (Stop MissingOperand)) (Stop NoCommand))
-    go more w n false u i s = refl
-    go more w n true false i s = refl
-    go more w n true true true s = refl
-    go more w n true true false true = refl
-    go more w n true true false false = refl
+        ≡ led at more (cond t (cond u (cond i (Err NoTicks) (cond s (Err BufferShort) (Ok p))) (Err MissingOperand)) (Err NoCommand))
+    go more p false u i s = refl
+    go more p true false i s = refl
+    go more p true true true s = refl
+    go more p true true false true = refl
+    go more p true true false false = refl
 
 -- what a line that is found says
 pub record Here (room : ℕ) (bytes : List ℕ) (w n : ℕ) : Type 0 where
@@ -69,26 +69,24 @@ pub record Here (room : ℕ) (bytes : List ℕ) (w n : ℕ) : Type 0 where
   pub enough : operands (decode bytes) < length bytes
   pub fits : length (line_of (decode bytes)) ≤ room
 
-no_stop : {A : Type 0} {why : NoText} {w n : ℕ} → Stop why ≡ Line w n → A
-no_stop {A} e = let z : ◌≡◌ {A = ℕ} 0 1 = cc in absurd (omega arith)
-
-pub here : (room : ℕ) (bytes : List ℕ) (w n : ℕ) → found room bytes ≡ Line w n → Here room bytes w n
+pub here : (room : ℕ) (bytes : List ℕ) (p : Piece) → found room bytes ≡ Ok p → Here room bytes p.width p.size
 unfolding found found_known
-here room bytes w n e =
+here room bytes p e =
     let c : Command = decode bytes in
     go (within 1 (get_or bytes 0 0) last_command) (ltb (operands c) (length bytes)) (is_idle c) (ltb room (length (line_of c))) refl refl e
   where
     go : (t u i s : Bool) → ltb (operands (decode bytes)) (length bytes) ≡ u → ltb room (length (line_of (decode bytes))) ≡ s
-        → cond t (cond u (cond i (Stop NoTicks) (cond s (Stop BufferShort) (Line (1 + operands (decode bytes)) (length (line_of (decode bytes)))))) (Stop MissingOperand)) (Stop NoCommand) ≡ Line w n
-        → Here room bytes w n
-    go false u i s eu es e = no_stop e
-    go true false i s eu es e = no_stop e
-    go true true true s eu es e = no_stop e
-    go true true false true eu es e = no_stop e
+        → ◌≡◌ {A = Result Piece NoText} (cond t (cond u (cond i (Err NoTicks) (cond s (Err BufferShort) (Ok (record { width = 1 + operands (decode bytes); size = length (line_of (decode bytes)) })))) (Err MissingOperand)) (Err NoCommand)) (Ok p)
+        → Here room bytes p.width p.size
+    go false u i s eu es e = cc
+    go true false i s eu es e = cc
+    go true true true s eu es e = cc
+    go true true false true eu es e = cc
     go true true false false eu es e =
+        let q : ◌≡◌ {A = Piece} p (record { width = 1 + operands (decode bytes); size = length (line_of (decode bytes)) }) = cc in
         record {
-          width = cc;
-          size = cc;
+          width = ap (λ (x : Piece). x.width) q;
+          size = ap (λ (x : Piece). x.size) q;
           enough = ltb-true (operands (decode bytes)) (length bytes) eu;
           fits = ltb-false room (length (line_of (decode bytes))) es;
         }
@@ -129,7 +127,7 @@ module _ (room : ℕ) (bytes : List ℕ) where
 pub lent : (bytes : List ℕ) (at : ℕ) → take (length bytes - at) (drop at bytes) ≡ drop at bytes
 lent bytes at = take_all (length bytes - at) (drop at bytes) (omega (arith, length-drop at bytes))
 
-pub lent_found : (left : ℕ) (bytes : List ℕ) (at : ℕ) {r g : Found} → r ≡ found left (take (length bytes - at) (drop at bytes)) → r ≡ g → found left (drop at bytes) ≡ g
+pub lent_found : (left : ℕ) (bytes : List ℕ) (at : ℕ) {r g : Result Piece NoText} → r ≡ found left (take (length bytes - at) (drop at bytes)) → r ≡ g → found left (drop at bytes) ≡ g
 lent_found left bytes at e f = ap (found left) (sym (lent bytes at)) ∙ sym e ∙ f
 
 pub lent_width : (bytes : List ℕ) (at w : ℕ) → w ≡ operands (decode (get_or bytes at 0 ∷ [])) → w ≡ operands (decode (drop at bytes))

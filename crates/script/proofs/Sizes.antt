@@ -8,6 +8,7 @@ use lib.Dec.{leb, eqb}
 use lib.ListN.{length, drop, length-append}
 use borrow.Author.Tests.{leb-true}
 use Rattle.lists.proofs.Every.{all_append, all_get}
+use Rattle.std.specs.Prelude.{Result, Ok, Err, get_or}
 use Rattle.fit.specs.Fit.{within}
 use Rattle.election.specs.Commands.{Command, Run, Bytes}
 use Rattle.election.specs.Schedule.{most_bytes}
@@ -17,17 +18,16 @@ use Rattle.script.specs.Decimals.{is_number, value_of, shift, numbers}
 use Rattle.script.specs.Encoded.{encode, encode_all}
 use Rattle.script.specs.Entries.{Entry, longest_run, runs, most_runs, table, entries, none, entry, chosen}
 use Rattle.script.specs.Split.{lines, words, inside, lead}
+use Rattle.script.specs.declared.Why.{Why}
 use Rattle.script.specs.declared.Why.TheVariants.{UnknownWord, NumberRange}
-use Rattle.script.specs.declared.rules.numbers.Numbers.{Numbers}
-use Rattle.script.specs.declared.rules.numbers.Numbers.TheVariants as read
 use Rattle.script.specs.declared.rules.words.Part.TheVariants.{Uncommented}
 use Rattle.script.proofs.Taking.{Taken, taken}
 use Rattle.script.proofs.Values.{within-is}
 
 -- numbers up to a bound
-abbrev pub UpTo : ℕ → Numbers → Type 0
-UpTo most (read.Three x y z) = (x ≤ most) × (y ≤ most) × (z ≤ most)
-UpTo most (read.Wrong why) = Unit {0}
+abbrev pub UpTo : ℕ → Result (List ℕ) Why → Type 0
+UpTo most (Ok xs) = (get_or xs 0 0 ≤ most) × (get_or xs 1 0 ≤ most) × (get_or xs 2 0 ≤ most)
+UpTo most (Err why) = Unit {0}
 
 -- what is read is in the range
 pub numbers-small : (n least most : ℕ) (ws : List (List ℕ)) → UpTo most (numbers n least most ws)
@@ -37,9 +37,9 @@ numbers-small zero least most (w ∷ ws) = tt
 numbers-small (suc n) least most [] = tt
 numbers-small (suc n) least most (w ∷ ws) = go (is_number w) (within least (value_of w) most) refl (numbers n least most ws) (numbers-small n least most ws)
   where
-    go : (a b : Bool) → within least (value_of w) most ≡ b → (m : Numbers) → UpTo most m → UpTo most (cond a (cond b (shift (value_of w) m) (read.Wrong NumberRange)) (read.Wrong UnknownWord))
-    go true true e (read.Three x y z) h = ((within-is least (value_of w) most e).1, h.0, h.1)
-    go true true e (read.Wrong why) h = tt
+    go : (a b : Bool) → within least (value_of w) most ≡ b → (m : Result (List ℕ) Why) → UpTo most m → UpTo most (cond a (cond b (shift (value_of w) m) (Err NumberRange)) (Err UnknownWord))
+    go true true e (Ok xs) h = ((within-is least (value_of w) most e).1, h.0, h.1)
+    go true true e (Err why) h = tt
     go true false e m h = tt
     go false b e m h = tt
 
@@ -98,9 +98,9 @@ abbrev Coded : Meant → Type 0
 Coded (Commands cs) = Bytes (encode_all cs)
 Coded (Wrong why) = Unit {0}
 
-made_bytes : (k : ℕ) (m : Numbers) → UpTo (entry k).most m → Coded (made (entry k) m)
-made_bytes k (read.Three x y z) h = entry-bytes k x y z h.0 h.1 h.2
-made_bytes k (read.Wrong why) h = tt
+made_bytes : (k : ℕ) (m : Result (List ℕ) Why) → UpTo (entry k).most m → Coded (made (entry k) m)
+made_bytes k (Ok xs) h = entry-bytes k (get_or xs 0 0) (get_or xs 1 0) (get_or xs 2 0) h.0 h.1 h.2
+made_bytes k (Err why) h = tt
 
 words-bytes : (ws : List (List ℕ)) → Coded (of_words ws)
 unfolding of_words encode_all

@@ -1,5 +1,5 @@
 -- A text assembled: the commands of its lines, as bytes, or the first line that is wrong and why.
-use Rattle.std.specs.Prelude.{List, [], ◌∷◌, ◌++◌, cond, ℕ, ◌+◌, ltb, eqb, length, drop}
+use Rattle.std.specs.Prelude.{List, [], ◌∷◌, ◌++◌, cond, ℕ, ◌+◌, ltb, eqb, length, get_or, drop, Result, Ok, Err}
 use Rattle.lists.specs.Entries.{over}
 use Rattle.election.specs.Commands.{Command}
 use Rattle.election.specs.Schedule.{most_bytes}
@@ -7,12 +7,9 @@ use Rattle.script.specs.Decimals.{numbers}
 use Rattle.script.specs.Encoded.{encode_all}
 use Rattle.script.specs.Entries.{Entry, entries, entry, chosen}
 use Rattle.script.specs.Split.{lines, words, inside, lead}
-use Rattle.script.specs.declared.Assembled.{Assembled}
-use Rattle.script.specs.declared.Assembled.TheVariants as code
 use Rattle.script.specs.declared.Why.{Why}
 use Rattle.script.specs.declared.Why.TheVariants.{UnknownWord, ScheduleLong, BufferShort}
-use Rattle.script.specs.declared.rules.numbers.Numbers.{Numbers}
-use Rattle.script.specs.declared.rules.numbers.Numbers.TheVariants as read
+use Rattle.script.specs.declared.WrongLine.{WrongLine}
 use Rattle.script.specs.declared.rules.words.Part.TheVariants.{Uncommented}
 
 -- what a line means: its commands, or that it is wrong and why
@@ -25,9 +22,9 @@ abbrev pub commands_of : Meant → List Command
 commands_of (Commands cs) = cs
 commands_of (Wrong why) = []
 
-abbrev pub made : Entry → Numbers → Meant
-made e (read.Three x y z) = Commands (e.makes x y z)
-made e (read.Wrong why) = Wrong why
+abbrev pub made : Entry → Result (List ℕ) Why → Meant
+made e (Ok xs) = Commands (e.makes (get_or xs 0 0) (get_or xs 1 0) (get_or xs 2 0))
+made e (Err why) = Wrong why
 
 -- the words of a line: no words are no command; else the entry that they begin with, and its numbers
 unfoldable pub of_words : List (List ℕ) → Meant
@@ -67,14 +64,18 @@ of_lines k size room (l ∷ ls) =
 abbrev pub script : ℕ → List ℕ → Script
 script room text = of_lines 1 0 room (lines text)
 
+-- the answer where a line is wrong
+abbrev pub wrong_at : ℕ → Why → Result ℕ WrongLine
+wrong_at k why = Err (record { line = k; why = why })
+
 -- what assemble leaves: its answer, and the buffer; refused, the buffer is as it was
 pub record Left : Type 0 where
-  pub answer : Assembled
+  pub answer : Result ℕ WrongLine
   pub buffer : List ℕ
 
 abbrev pub leaving : Script → List ℕ → Left
-leaving (Schedule bytes) buffer = record { answer = code.Done (length bytes); buffer = over bytes buffer }
-leaving (WrongAt k why) buffer = record { answer = code.Wrong k why; buffer = buffer }
+leaving (Schedule bytes) buffer = record { answer = Ok (length bytes); buffer = over bytes buffer }
+leaving (WrongAt k why) buffer = record { answer = wrong_at k why; buffer = buffer }
 
 unfoldable pub assembled : List ℕ → List ℕ → Left
 assembled text buffer = leaving (script (length buffer) text) buffer

@@ -1,11 +1,8 @@
 -- Decimal numbers as words, and the numbers that stand behind the words of a command.
-use Rattle.std.specs.Prelude.{List, [], ◌∷◌, Bool, true, cond, ◌&&◌, ℕ, zero, suc, ◌+◌, ◌*◌, ◌-◌, leb}
+use Rattle.std.specs.Prelude.{List, [], ◌∷◌, Bool, true, cond, ◌&&◌, ℕ, zero, suc, ◌+◌, ◌*◌, ◌-◌, leb, get_or, Option, Some, None, Result, Ok, Err}
 use Rattle.fit.specs.Fit.{within}
+use Rattle.script.specs.declared.Why.{Why}
 use Rattle.script.specs.declared.Why.TheVariants.{UnknownWord, NumberMissing, TooManyWords, NumberRange}
-use Rattle.script.specs.declared.rules.numbers.Numbers.{Numbers}
-use Rattle.script.specs.declared.rules.numbers.Numbers.TheVariants.{Three, Wrong}
-use Rattle.script.specs.declared.rules.numbers.Value.{Value}
-use Rattle.script.specs.declared.rules.numbers.Value.TheVariants.{Number, NotNumber}
 
 -- every character is a decimal digit
 unfoldable pub is_number : List ℕ → Bool
@@ -21,22 +18,22 @@ abbrev pub value_of : List ℕ → ℕ
 value_of word = value_from 0 word
 
 -- a number before others; the third of them is lost, and no command has four
-abbrev pub shift : ℕ → Numbers → Numbers
-shift v (Three x y z) = Three v x y
-shift v (Wrong why) = Wrong why
+abbrev pub shift : ℕ → Result (List ℕ) Why → Result (List ℕ) Why
+shift v (Ok xs) = Ok (v ∷ get_or xs 0 0 ∷ get_or xs 1 0 ∷ [])
+shift v (Err why) = Err why
 
 -- so many numbers in a range, and no word more; 0 stands for those that aren't asked for. What is wrong is told of the first word that is.
-unfoldable pub numbers : ℕ → ℕ → ℕ → List (List ℕ) → Numbers
-numbers zero least most [] = Three 0 0 0
-numbers zero least most (w ∷ ws) = Wrong TooManyWords
-numbers (suc k) least most [] = Wrong NumberMissing
+unfoldable pub numbers : ℕ → ℕ → ℕ → List (List ℕ) → Result (List ℕ) Why
+numbers zero least most [] = Ok (0 ∷ 0 ∷ 0 ∷ [])
+numbers zero least most (w ∷ ws) = Err TooManyWords
+numbers (suc k) least most [] = Err NumberMissing
 numbers (suc k) least most (w ∷ ws) =
-    cond (is_number w) (cond (within least (value_of w) most) (shift (value_of w) (numbers k least most ws)) (Wrong NumberRange)) (Wrong UnknownWord)
+    cond (is_number w) (cond (within least (value_of w) most) (shift (value_of w) (numbers k least most ws)) (Err NumberRange)) (Err UnknownWord)
 
 -- a number, as far as it matters: no place takes more than 1,000,000
 abbrev pub capped : ℕ → ℕ
 capped x = cond (leb x 1000000) x 1000001
 
 -- the number that a word spells, if it is one
-unfoldable pub valued : List ℕ → Value
-valued word = cond (is_number word) (Number (capped (value_of word))) NotNumber
+unfoldable pub valued : List ℕ → Option ℕ
+valued word = cond (is_number word) (Some (capped (value_of word))) None

@@ -1,5 +1,5 @@
 -- A schedule as text: a line for each command.
-use Rattle.std.specs.Prelude.{List, [], ◌∷◌, ◌++◌, Bool, false, cond, ℕ, zero, suc, ◌+◌, ltb, eqb, length, drop}
+use Rattle.std.specs.Prelude.{List, [], ◌∷◌, ◌++◌, Bool, false, cond, ℕ, zero, suc, ◌+◌, ltb, eqb, length, drop, Result, Ok, Err}
 use Rattle.lists.specs.Entries.{over}
 use Rattle.fit.specs.Fit.{within}
 use Rattle.text.specs.Numbers.{named, newline}
@@ -9,8 +9,7 @@ use Rattle.election.specs.Schedule.{most_bytes}
 use Rattle.script.specs.Entries.{entry}
 use Rattle.script.specs.declared.NoText.{NoText}
 use Rattle.script.specs.declared.NoText.TheVariants.{NoCommand, MissingOperand, NoTicks, ScheduleLong, BufferShort}
-use Rattle.script.specs.declared.Shown.{Shown}
-use Rattle.script.specs.declared.Shown.TheVariants as code
+use Rattle.script.specs.declared.NoTextAt.{NoTextAt}
 
 -- the entry by which a command is written, and the numbers behind its words; a link with delay 0 is cut
 unfoldable pub entry_of : Command → ℕ
@@ -87,14 +86,18 @@ shown_text room bytes =
     let all : Showing = showing (length bytes) 0 0 room bytes in
     cond (ltb most_bytes (length bytes)) (NoneAt 0 ScheduleLong) all
 
+-- the answer where there is no text
+abbrev pub none_at : ℕ → NoText → Result ℕ NoTextAt
+none_at at why = Err (record { at = at; why = why })
+
 -- what show leaves: its answer, and the buffer; refused, the buffer is as it was
 pub record Left : Type 0 where
-  pub answer : Shown
+  pub answer : Result ℕ NoTextAt
   pub buffer : List ℕ
 
 abbrev pub leaving : Showing → List ℕ → Left
-leaving (Text line) buffer = record { answer = code.Done (length line); buffer = over line buffer }
-leaving (NoneAt at why) buffer = record { answer = code.Refused at why; buffer = buffer }
+leaving (Text line) buffer = record { answer = Ok (length line); buffer = over line buffer }
+leaving (NoneAt at why) buffer = record { answer = none_at at why; buffer = buffer }
 
 unfoldable pub shown : List ℕ → List ℕ → Left
 shown bytes buffer = leaving (shown_text (length buffer) bytes) buffer

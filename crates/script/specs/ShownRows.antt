@@ -1,10 +1,9 @@
 -- Schedules as text, computed: a line for each command, each refusal with its offset, and what is left in the buffer.
-use Rattle.std.specs.Prelude.{◌≡◌, List, [], ◌∷◌, ◌++◌, ℕ, ◌<◌, length}
+use Rattle.std.specs.Prelude.{◌≡◌, List, [], ◌∷◌, ◌++◌, ℕ, ◌<◌, length, Ok}
 use Rattle.text.specs.Quoted.{text}
 use Rattle.election.specs.Schedule.{most_bytes}
-use Rattle.script.specs.Shown.{Text, NoneAt, shown_text, shown}
+use Rattle.script.specs.Shown.{Text, NoneAt, shown_text, none_at, shown}
 use Rattle.script.specs.declared.NoText.TheVariants.{NoCommand, MissingOperand, NoTicks, ScheduleLong, BufferShort}
-use Rattle.script.specs.declared.Shown.TheVariants.{Done, Refused}
 
 -- every command, a link with a delay and one with none, and the longest run
 abbrev pub Lines : Type 0
@@ -44,5 +43,5 @@ Long = (room : ℕ) (bytes : List ℕ) → most_bytes < length bytes → shown_t
 -- the text stands at the front of the buffer; refused, the buffer is as it was
 abbrev pub Buffers : Type 0
 Buffers =
-    (shown (7 ∷ []) (1 ∷ 2 ∷ 3 ∷ 4 ∷ 5 ∷ 6 ∷ 7 ∷ 8 ∷ 9 ∷ []) ≡ record { answer = Done 7; buffer = text "report\n" ++ (8 ∷ 9 ∷ []) })
-    × (shown (7 ∷ 0 ∷ []) (1 ∷ 2 ∷ 3 ∷ 4 ∷ 5 ∷ 6 ∷ 7 ∷ 8 ∷ 9 ∷ []) ≡ record { answer = Refused 1 NoCommand; buffer = 1 ∷ 2 ∷ 3 ∷ 4 ∷ 5 ∷ 6 ∷ 7 ∷ 8 ∷ 9 ∷ [] })
+    (shown (7 ∷ []) (1 ∷ 2 ∷ 3 ∷ 4 ∷ 5 ∷ 6 ∷ 7 ∷ 8 ∷ 9 ∷ []) ≡ record { answer = Ok 7; buffer = text "report\n" ++ (8 ∷ 9 ∷ []) })
+    × (shown (7 ∷ 0 ∷ []) (1 ∷ 2 ∷ 3 ∷ 4 ∷ 5 ∷ 6 ∷ 7 ∷ 8 ∷ 9 ∷ []) ≡ record { answer = none_at 1 NoCommand; buffer = 1 ∷ 2 ∷ 3 ∷ 4 ∷ 5 ∷ 6 ∷ 7 ∷ 8 ∷ 9 ∷ [] })

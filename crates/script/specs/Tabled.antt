@@ -1,5 +1,5 @@
 -- The table of the code, entry by entry, is that of the words.
-use Rattle.std.specs.Prelude.{◌≡◌, [], ◌∷◌, ℕ, ◌<◌, ◌≤◌, length, take}
+use Rattle.std.specs.Prelude.{◌≡◌, [], ◌∷◌, ℕ, ◌<◌, ◌≤◌}
 use Rattle.station.specs.Limits.{last_tick}
 use Rattle.election.specs.Commands.{decode, last_command}
 use Rattle.script.specs.Entries.{entry, runs, most_runs}
@@ -18,8 +18,7 @@ pub record Makes (k : ℕ) (r : Entry) : Type 0 where
 
 -- the entry at k
 pub record Tabled (k : ℕ) (r : Entry) : Type 0 where
-  pub size : r.size ≤ length r.name
-  pub name : take r.size r.name ≡ (entry k).name
+  pub name : r.name.now ≡ (entry k).name
   pub numbers : r.numbers ≡ (entry k).numbers
   pub few : r.numbers ≤ 3
   pub least : r.least ≡ (entry k).least

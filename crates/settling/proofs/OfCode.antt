@@ -9,12 +9,11 @@ use lib.ListN.{length, take, drop, length-drop, take-append-drop}
 use Rattle.lists.specs.Every.{All}
 use Rattle.lists.proofs.Bools.{cond_elim}
 use Rattle.lists.proofs.Every.{all_left, all_right}
-use Rattle.settling.specs.OfCode.{Octets, Reachable, at_first, after-command, ObeysAs, RunsAs, obeyed, SettlingOfCode, SteadySettlingOfCode}
+use Rattle.settling.specs.OfCode.{Octets, Reachable, at_first, after-command, Commanding, ObeysAs, RunsAs, obeyed, SettlingOfCode, SteadySettlingOfCode}
 use Rattle.election.specs.Commands.{Result, command}
 use Rattle.election.specs.Schedule.{End, follow, most_bytes, schedule, said as saidSchedule}
 use Rattle.settling.specs.Settling.{answered, given}
 use Rattle.election.specs.System.{fresh}
-use Rattle.election.specs.declared.Commanded.{Commanded}
 use Rattle.election.specs.declared.Scheduled.{Scheduled}
 use Rattle.election.specs.declared.System.{System}
 use Rattle.settling.proofs.HSteady.{steady-settling}
@@ -48,14 +47,14 @@ schedule-reachable bytes o =
     cond_elim (λ (e : End). Reachable e.system) (ltb most_bytes (length bytes)) (λ t. at_first) (λ t. follow-reachable (length bytes) fresh 0 bytes o at_first)
 
 -- f answers what Command does
-obeyed-answered : (f : System → List ℕ → Commanded) → ObeysAs f → (es : List (List ℕ)) (s : System) → All Octets es → Reachable s → obeyed f es s ≡ answered es s
+obeyed-answered : (f : Commanding) → ObeysAs f → (es : List (List ℕ)) (s : System) → All Octets es → Reachable s → obeyed f es s ≡ answered es s
 unfolding obeyed answered
 obeyed-answered f h [] s o r = refl
 obeyed-answered f h (e ∷ es) s o r =
     ap (obeyed f es) (ap (λ (x : Result). x.system) (h s e r o.0)) ∙ obeyed-answered f h es (command s e).system o.1 (after-command e r o.0)
 
 -- g's last system is the schedule's, and f answers what the rules give from there
-module _ (f : System → List ℕ → Commanded) (g : List ℕ → Scheduled) (obeys : ObeysAs f) (runs : RunsAs g) (bytes : List ℕ) (stretch : List (List ℕ)) (o : Octets bytes) (os : All Octets stretch) where
+module _ (f : Commanding) (g : List ℕ → Scheduled) (obeys : ObeysAs f) (runs : RunsAs g) (bytes : List ℕ) (stretch : List (List ℕ)) (o : Octets bytes) (os : All Octets stretch) where
   same-refusal : (schedule bytes).refusal ≡ (saidSchedule (g bytes)).refusal
   same-refusal = ap (λ (x : End). x.refusal) (sym (runs bytes o))
 

@@ -6,21 +6,18 @@ use mathlib.Core.Bool.{Bool, true, false, cond}
 use Prim.Native.Nat.{ℕ, ◌+◌}
 use lib.Dec.{eqb, ltb}
 use lib.ListN.{length}
+use Rattle.std.specs.Prelude.{Result, Ok, Err}
 use Rattle.lists.specs.Every.{All}
 use Rattle.lists.proofs.Bools.{cond_elim}
 use Rattle.election.specs.Commands.{Command, SetUp, Start, Crash, Link, Run, Lose, Report, Rank, decode, operands, tests, refusal, command, number_of, refusal_of, length_of}
-use Rattle.settling.specs.OfCode.{Octets, CodeExists}
+use Rattle.settling.specs.OfCode.{Octets, Commanding, CodeExists}
 use Rattle.election.specs.Schedule.{End, most_bytes, schedule, refusal_of as refusalIn, offset_of}
 use Rattle.election.specs.Sound.{sound}
 use Rattle.election.specs.System.{fresh}
-use Rattle.election.specs.declared.Answer.{Answer}
-use Rattle.election.specs.declared.Answer.TheVariants.{Done, Refused}
-use Rattle.election.specs.declared.Commanded.{Commanded}
-use Rattle.election.specs.declared.Ended.{Ended}
-use Rattle.election.specs.declared.Ended.TheVariants.{Whole, Stopped}
 use Rattle.election.specs.declared.Refusal.{Refusal}
 use Rattle.election.specs.declared.Refusal.TheVariants.{UnknownCommand, MissingOperand, NotSetUp, SetUpTwice, StationsRange, PeriodRange, StationRange, StationUp, StationDown, WornOut, SameStation, NoTicks, PastLastTick, Unsound, ScheduleLong, RankRange, AlreadyStarted, ClockHeads}
 use Rattle.election.specs.declared.Scheduled.{Scheduled}
+use Rattle.election.specs.declared.Stopped.{Stopped}
 use Rattle.election.specs.declared.System.{System}
 use Rattle.election.proofs.Follow.{ruling-is, follow-refusal}
 use Rattle.election.proofs.NoTwelve.{no_twelve}
@@ -79,39 +76,42 @@ schedule-known bytes =
     (λ t. follow-refusal Known (λ s rest. Unit {0}) (λ ne. refl) (λ s rest m. command-known s rest) (λ s rest m e. tt) (length bytes) fresh 0 bytes tt)
 
 -- the answers that say what is to be said
-abbrev answer : ℕ → ℕ → Answer
-answer refusal size = cond (eqb refusal 0) (Done size) (Refused (named refusal))
+abbrev answer : ℕ → ℕ → Result ℕ Refusal
+answer refusal size = cond (eqb refusal 0) (Ok size) (Err (named refusal))
 
-abbrev ended : ℕ → ℕ → Ended
-ended refusal at = cond (eqb refusal 0) (Whole at) (Stopped at (named refusal))
+abbrev stopped : ℕ → Refusal → Stopped
+stopped at why = record { at = at; refusal = why }
 
-answer-refusal : (b : Bool) (size : ℕ) (r : Refusal) → refusal_of (cond b (Done size) (Refused r)) ≡ cond b 0 (number_of r)
+abbrev ended : ℕ → ℕ → Result ℕ Stopped
+ended refusal at = cond (eqb refusal 0) (Ok at) (Err (stopped at (named refusal)))
+
+answer-refusal : (b : Bool) (size : ℕ) (r : Refusal) → refusal_of (cond b (Ok size) (Err r)) ≡ cond b 0 (number_of r)
 answer-refusal true size r = refl
 answer-refusal false size r = refl
 
-answer-length : (b : Bool) (size : ℕ) (r : Refusal) → length_of (cond b (Done (cond b size 0)) (Refused r)) ≡ cond b size 0
+answer-length : (b : Bool) (size : ℕ) (r : Refusal) → length_of (cond b (Ok (cond b size 0)) (Err r)) ≡ cond b size 0
 answer-length true size r = refl
 answer-length false size r = refl
 
-ended-refusal : (b : Bool) (at : ℕ) (r : Refusal) → refusalIn (cond b (Whole at) (Stopped at r)) ≡ cond b 0 (number_of r)
+ended-refusal : (b : Bool) (at : ℕ) (r : Refusal) → refusalIn (cond b (Ok at) (Err (stopped at r))) ≡ cond b 0 (number_of r)
 ended-refusal true at r = refl
 ended-refusal false at r = refl
 
-ended-offset : (b : Bool) (at : ℕ) (r : Refusal) → offset_of (cond b (Whole at) (Stopped at r)) ≡ at
+ended-offset : (b : Bool) (at : ℕ) (r : Refusal) → offset_of (cond b (Ok at) (Err (stopped at r))) ≡ at
 ended-offset true at r = refl
 ended-offset false at r = refl
 
-obeys : System → List ℕ → Commanded
-obeys s bytes = record { answer = answer (command s bytes).refusal (command s bytes).length; system = (command s bytes).system }
+obeys : Commanding
+obeys s bytes = (answer (command s bytes).refusal (command s bytes).length, (command s bytes).system)
 
 runs : List ℕ → Scheduled
 runs bytes = record { ended = ended (schedule bytes).refusal (schedule bytes).offset; system = (schedule bytes).system }
 
-obeys_length : (s : System) (bytes : List ℕ) → length_of (obeys s bytes).answer ≡ (command s bytes).length
+obeys_length : (s : System) (bytes : List ℕ) → length_of (obeys s bytes).0 ≡ (command s bytes).length
 unfolding obeys command
 obeys_length s bytes = answer-length (eqb (refusal s bytes) 0) (1 + operands (decode bytes)) (named (refusal s bytes))
 
-obeys_refusal : (s : System) (bytes : List ℕ) → Octets bytes → refusal_of (obeys s bytes).answer ≡ (command s bytes).refusal
+obeys_refusal : (s : System) (bytes : List ℕ) → Octets bytes → refusal_of (obeys s bytes).0 ≡ (command s bytes).refusal
 unfolding obeys
 obeys_refusal s bytes o = answer-refusal (eqb (command s bytes).refusal 0) (command s bytes).length (named (command s bytes).refusal) ∙ command-known s bytes (no_twelve.0 s bytes o.bytes-each)
 

@@ -1,3 +1,4 @@
--- A turn of the owner, and what its operations give.
+-- What a command does that is taken, a turn of going on with a schedule, and what the operations give.
 pub mod Operations
+pub mod Stored
 pub mod Turns

@@ -50,9 +50,9 @@ module _ (s : System) (bytes : List ℕ) (t : (command s bytes).refusal ≡ 0) (
       ∙ ap (after []) (go_end false _ (command s front).system (0 + (command s front).length) front (omega (arith, size, long))))
       ∙ ap (λ (r : Result). r.system) alone
 
-  pub done : (buffer left : List ℕ) (l : Layout) (r : Onward) → system_of l ≡ s → said r left ≡ gone false (system_of l) 0 (take (1 + w) bytes) buffer
-      → record { refusal = 0; length = 1 + w; system = system_of r.system } ≡ command s bytes
-  done buffer left l r e g = λ i. record { refusal = sym t i; length = sym size_is i; system = (ap (λ (x : Gone). x.system) (rw e at g) ∙ gone-alone (length buffer)) i }
+  pub done : (buffer left : List ℕ) (l l' : Layout) (r : Onward) → system_of l ≡ s → said r l' left ≡ gone false (system_of l) 0 (take (1 + w) bytes) buffer
+      → record { refusal = 0; length = 1 + w; system = system_of l' } ≡ command s bytes
+  done buffer left l l' r e g = λ i. record { refusal = sym t i; length = sym size_is i; system = (ap (λ (x : Gone). x.system) (rw e at g) ∙ gone-alone (length buffer)) i }
 
 -- above the most bytes nothing is done
 pub too_long : (bytes : List ℕ) → most_bytes < length bytes → schedule bytes ≡ record { refusal = 21; offset = 0; system = fresh }
@@ -60,9 +60,9 @@ unfolding schedule
 too_long bytes h = rw (lt-ltb most_bytes (length bytes) h)
 
 -- otherwise going on from the fresh system, asked for no listings, comes to the schedule's end
-pub gone-through : (bytes buffer left : List ℕ) (l : Layout) (r : Onward) → length bytes ≤ most_bytes → system_of l ≡ fresh → said r left ≡ gone false (system_of l) 0 bytes buffer
-    → record { refusal = refusal_of r.stop; offset = r.at; system = system_of r.system } ≡ schedule bytes
-gone-through bytes buffer left l r h e g =
+pub gone-through : (bytes buffer left : List ℕ) (l l' : Layout) (r : Onward) → length bytes ≤ most_bytes → system_of l ≡ fresh → said r l' left ≡ gone false (system_of l) 0 bytes buffer
+    → record { refusal = refusal_of r.stop; offset = r.at; system = system_of l' } ≡ schedule bytes
+gone-through bytes buffer left l l' r h e g =
     ap (λ (x : Gone). record { refusal = x.refusal; offset = x.offset; system = x.system }) (rw e at g)
     ∙ unlisted_end (length buffer) fresh 0 bytes
     ∙ rest-schedule bytes h

@@ -1,46 +1,42 @@
 -- A turn of going on with a schedule: where it stands, that each taken command leads on, and that each stop is the definition's.
-use mathlib.Core.Path.{◌≡◌, refl, sym, ap, subst, ◌∙◌}
+use mathlib.Core.Path.{◌≡◌, refl, sym, ap, ◌∙◌}
 use mathlib.Core.Logic.{◌≢◌}
 use mathlib.Core.List.{List, [], ◌∷◌, ◌++◌, append_assoc, append-nil}
-use mathlib.Core.Bool.{Bool, true, false, cond, ◌&&◌, true≢false}
+use mathlib.Core.Bool.{Bool, true, false, cond, ◌&&◌, true≢false, and-false}
 use Prim.Native.Nat.{ℕ, ◌+◌, ◌*◌, ◌-◌, ◌<◌, ◌≤◌}
-use native.Mathlib.Decide.{ℕ_discrete}
+use native.Mathlib.Decide.{ℕ_discrete, dec_lt}
 use native.Mathlib.Nat.{add-zero}
 use native.Mathlib.Omega.{arith}
 use lib.Dec.{eqb, ltb}
-use lib.ListN.{length, get_or, set, take, drop, length-drop, length-set}
+use lib.ListN.{length, get_or, take, drop, length-drop}
 use lib.Seq.{get_or-drop, take_all}
-use borrow.Author.Tests.{eq-eqb, ne_eqb, eqb-false}
+use borrow.Author.Tests.{eq-eqb, ne_eqb, eqb-false, le-leb, lt-leb}
 use borrow.Rule.Slice.PartMut.{put_mid}
 use Rattle.lists.specs.Entries.{over}
 use Rattle.lists.specs.First.{first_failed}
 use Rattle.lists.proofs.First.{passed}
 use Rattle.fit.specs.Fit.{within}
-use Rattle.station.specs.declared.Station.{Station}
 use Rattle.election.specs.Commands.{Command, SetUp, Start, Crash, Link, Run, Lose, Report, Rank, Result, decode, operands, last_command, tests, ruling, perform, refusal, command, number_of}
-use Rattle.election.specs.Idle.{Still}
-use Rattle.election.specs.System.{at_tick, with_station, with_delay, without_messages, with_rank, no_station, place, holding, with_links, places}
 use Rattle.election.specs.Listing.{listing, longest_listing}
 use Rattle.election.specs.Onward.{Halt, after, to_list, go_on}
 use Rattle.election.specs.Sound.{sound}
-use Rattle.election.specs.Tick.{ticks}
 use Rattle.election.specs.declared.Refusal.{Refusal}
 use Rattle.election.specs.declared.System.{System}
 use Rattle.election.proofs.FromOffset.{command-inside}
 use Rattle.election.proofs.GoingOn.{go_end, go_refused, go_full, go_after}
-use Rattle.election.proofs.Idle.{still_on}
 use Rattle.election.proofs.KeepsSound.{keeps_sound}
 use Rattle.layout.specs.Layout.{system_of}
 use Rattle.layout.specs.declared.Layout.{Layout}
-use Rattle.layout.proofs.Stores.{Wide, with_stations, with_delays, with_used, with_ranks, Clearing, lost-read}
 use Rattle.text.specs.Wrote.{Wrote}
 use Rattle.text.proofs.Parts.{wrote_none, wrote_part, wrote_length}
-use Rattle.decision.specs.Decided.{Sees, Turned, Taken, decided, meaning}
+use Rattle.decision.specs.Decided.{Decided, Sees, SeesAll, Turned, Taken, command_of, decided}
 use Rattle.simulator.specs.Gone.{Gone, leaving, gone, said}
 use Rattle.simulator.specs.declared.rules.Stop.TheVariants.{Full, End, Refused}
-use Rattle.decision.specs.declared.Decision.{Decision}
-use Rattle.decision.proofs.Bytes.{not_known, report-read}
-use Rattle.decision.proofs.Decisions.{decided-by, numbered, refused-number, taken-command, taken-width}
+use Rattle.decision.specs.declared.Command as declared
+use Rattle.decision.specs.declared.Command.TheVariants as code
+use Rattle.decision.specs.declared.Seen.{Seen}
+use Rattle.decision.proofs.Bytes.{report-read, sees-all}
+use Rattle.decision.proofs.Decisions.{numbered, refused-number, taken-command, taken-width}
 
 -- the command is a report
 abbrev pub is_report : Command → Bool
@@ -52,6 +48,34 @@ is_report (Run t) = false
 is_report (Lose p q) = false
 is_report Report = true
 is_report (Rank p r) = false
+
+-- nothing is listed for another command
+pub unlisted : (list : Bool) (c : declared.Command) → (c ≡ code.Report → ⊥) → (list && is_report (command_of c)) ≡ false
+unlisted list (code.SetUp clock n period) ne = and-false list
+unlisted list (code.Start p) ne = and-false list
+unlisted list (code.Crash p) ne = and-false list
+unlisted list (code.Link p q d) ne = and-false list
+unlisted list (code.Run t) ne = and-false list
+unlisted list (code.Lose p q) ne = and-false list
+unlisted list code.Report ne = absurd (ne refl)
+unlisted list (code.Rank p r) ne = and-false list
+
+-- no byte but the nine is a command's
+not_known : (b : ℕ) → b ≢ 1 → b ≢ 2 → b ≢ 3 → b ≢ 4 → b ≢ 5 → b ≢ 6 → b ≢ 7 → b ≢ 8 → b ≢ 9 → within 1 b last_command ≡ false
+not_known b n1 n2 n3 n4 n5 n6 n7 n8 n9 = go (dec_lt 0 b)
+  where
+    above_four : 1 ≤ b → 4 < b
+    above_four h = omega arith
+
+    above_nine : 4 < b → 9 < b
+    above_nine h = omega arith
+
+    none : ((0 < b) → ⊥) → b < 1
+    none low = omega arith
+
+    go : Dec (0 < b) → within 1 b last_command ≡ false
+    go (yes low) = rw (le-leb 1 b low, lt-leb b last_command (above_nine (above_four low)))
+    go (no low) = rw (lt-leb 1 b (none low))
 
 -- so its byte is 7, and no other accepted command's is
 report-byte : (s : System) (bytes : List ℕ) → (command s bytes).refusal ≡ 0 → eqb (get_or bytes 0 0) 7 ≡ is_report (decode bytes)
@@ -85,46 +109,24 @@ report-byte s bytes t =
     seven (yes e) w = eq-eqb (get_or bytes 0 0) 7 e ∙ sym (ap is_report (report-read bytes e))
     seven (no ne) w = ne_eqb (get_or bytes 0 0) 7 ne ∙ other (get_or bytes 0 0) ne w _ _ _ _ _ _ _ _ refl refl refl refl refl refl refl refl
 
--- what is decided from a layout's values and the bytes that are lent is decided of its system
-pub decided-of : (s : Layout) (bytes : List ℕ) (at k : ℕ) (d : Decision) → sound (system_of s) ≡ true
-    → (k < 8) × (get_or (take (length bytes - at) (drop at bytes)) 1 0 ≤ 8 → get_or (take (length bytes - at) (drop at bytes)) 1 0 - 1 ≡ k)
-    → ((z : System) → sound z ≡ true → Sees z s.ready s.clock s.n s.tick (get_or s.stations k no_station) (take (length bytes - at) (drop at bytes))
-    → meaning z d ≡ decided (ruling z (take (length bytes - at) (drop at bytes))) (decode (take (length bytes - at) (drop at bytes))))
-    → meaning (system_of s) d ≡ decided (ruling (system_of s) (drop at bytes)) (decode (drop at bytes))
-decided-of s bytes at k d ok named told =
+-- what is decided from the bytes that are lent, with what is seen of a system, is decided of it
+pub decided-of : (s : System) (seen : Seen) (bytes : List ℕ) (at : ℕ) (d : Decided) → sound s ≡ true → SeesAll s seen
+    → ((z : System) → sound z ≡ true → Sees z seen (decode (take (length bytes - at) (drop at bytes))) → d ≡ decided (ruling z (take (length bytes - at) (drop at bytes))) (decode (take (length bytes - at) (drop at bytes))))
+    → d ≡ decided (ruling s (drop at bytes)) (decode (drop at bytes))
+decided-of s seen bytes at d ok sees told =
     let all : take (length bytes - at) (drop at bytes) ≡ drop at bytes = take_all (length bytes - at) (drop at bytes) (omega (arith, length-drop at bytes)) in
-    rw all at (decided-by (system_of s) (take (length bytes - at) (drop at bytes)) k d ok named told)
-
--- what is stored for a command that is taken is what it does
-pub station-stored : (s y : Layout) (p : ℕ) (x : Station) → y ≡ with_stations (set s.stations (p - 1) x) s → system_of y ≡ with_station p x (system_of s)
-station-stored s y p x e = ap system_of e
-
-pub delay-stored : (s y : Layout) (k p q x : ℕ) → k ≡ place p q → y ≡ with_delays (set s.delays k x) s → system_of y ≡ with_delay p q x (system_of s)
-delay-stored s y k p q x h e = ap system_of e ∙ ap (λ i. system_of (with_delays (set s.delays i x) s)) h
-
-pub rank-stored : (s y : Layout) (p r : ℕ) → y ≡ with_ranks (set s.ranks (p - 1) r) s → system_of y ≡ with_rank p r (system_of s)
-rank-stored s y p r e = ap system_of e
-
-pub messages-stored : (s z y : Layout) (k p q i : ℕ) → k ≡ place p q → k < 64 → Wide s → Clearing k s z 0 i → i ≡ places → y ≡ with_used (set z.used k 0) z → Wide y × (system_of y ≡ without_messages p q (system_of s))
-messages-stored s z y k p q i h hk wide clear all e =
-    let cleared : Clearing k s z 0 places = subst (Clearing k s z 0) all clear in
-    (subst Wide (sym e) (record { used = length-set z.used k 0 ∙ ap (λ (x : Layout). length x.used) cleared.same ∙ wide.used; messages = cleared.size }), lost-read k s z y cleared wide hk e ∙ ap (λ j. with_links (set (system_of s).links j (holding [])) (system_of s)) h)
-
--- a run that ends by a tick up to which ticks only raise the counter
-pub tick-raised : (s y : Layout) (quiet t : ℕ) → Still quiet (system_of s) → s.tick + t ≤ quiet → system_of y ≡ at_tick (s.tick + t) (system_of s) → (system_of y ≡ ticks t (system_of s)) × Still quiet (system_of y)
-tick-raised s y quiet t still h e = (e ∙ sym (still t h), subst (Still quiet) (sym e) (still_on quiet t (system_of s) h still))
+    rw all at (told s ok (sees-all s seen (take (length bytes - at) (drop at bytes)) sees))
 
 -- where going on stands: a sound system, at an offset, with a text written to the buffer; it leads to what going on from the start leads to
 pub record Going (list : Bool) (bytes old : List ℕ) (s₀ : System) (at₀ : ℕ) (s : Layout) (at size : ℕ) (buffer : List ℕ) : Type 0 where
   pub is-sound : sound (system_of s) ≡ true
-  pub wide : Wide s
   pub text : List ℕ
   pub wrote : Wrote text old size buffer
   pub fits : size ≤ length old
   pub leads : after text (go_on list (length old - size) (system_of s) at bytes) ≡ go_on list (length old) s₀ at₀ bytes
 
-pub going_first : (list : Bool) (bytes old : List ℕ) (s : Layout) (at : ℕ) → sound (system_of s) ≡ true → Wide s → Going list bytes old (system_of s) at s at 0 old
-going_first list bytes old s at ok wide = record { is-sound = ok; wide = wide; text = []; wrote = wrote_none old; fits = omega arith; leads = (let z : length old - 0 ≡ length old = omega arith in ap (λ n. go_on list n (system_of s) at bytes) z) }
+pub going_first : (list : Bool) (bytes old : List ℕ) (s : Layout) (at : ℕ) → sound (system_of s) ≡ true → Going list bytes old (system_of s) at s at 0 old
+going_first list bytes old s at ok = record { is-sound = ok; text = []; wrote = wrote_none old; fits = omega arith; leads = (let z : length old - 0 ≡ length old = omega arith in ap (λ n. go_on list n (system_of s) at bytes) z) }
 
 module _ (list : Bool) (bytes old : List ℕ) (s₀ : System) (at₀ : ℕ) (s : Layout) (at size : ℕ) (buffer : List ℕ) (g : Going list bytes old s₀ at₀ s at size buffer) where
   pub same_size : length buffer ≡ length old
@@ -138,22 +140,22 @@ module _ (list : Bool) (bytes old : List ℕ) (s₀ : System) (at₀ : ℕ) (s :
       (λ i. record { full = full; refusal = number; offset = at; system = system_of s; written = (g.wrote.count ∙ ap length all) i; buffer = (g.wrote.bytes ∙ ap (λ l. over l old) all) i })
       ∙ ap (leaving old) (ap (after g.text) (sym e) ∙ g.leads)
 
-  pub ends : length bytes ≤ at → said (record { stop = End; at = at; size = size; system = s }) buffer ≡ gone list s₀ at₀ bytes old
+  pub ends : length bytes ≤ at → said (record { stop = End; at = at; size = size }) s buffer ≡ gone list s₀ at₀ bytes old
   ends h = halts false 0 (go_end list (length old - size) (system_of s) at bytes h)
 
-  module _ (inside : at < length bytes) (d : Decision) (m : meaning (system_of s) d ≡ decided (ruling (system_of s) (drop at bytes)) (decode (drop at bytes))) where
-    pub turned_down : (why : Refusal) → meaning (system_of s) d ≡ Turned (number_of why) → said (record { stop = Refused why; at = at; size = size; system = s }) buffer ≡ gone list s₀ at₀ bytes old
+  module _ (inside : at < length bytes) where
+    pub turned_down : (why : Refusal) → Turned (number_of why) ≡ decided (ruling (system_of s) (drop at bytes)) (decode (drop at bytes)) → said (record { stop = Refused why; at = at; size = size }) s buffer ≡ gone list s₀ at₀ bytes old
     turned_down why e =
-        let number = refused-number (system_of s) (drop at bytes) d why g.is-sound m e in
+        let number = refused-number (system_of s) (drop at bytes) g.is-sound why e in
         halts false (number_of why) (go_refused list (length old - size) (system_of s) at bytes inside (λ z. numbered why (sym number ∙ z)) ∙ ap (λ n. record { full = false; refusal = n; offset = at; system = system_of s; listed = [] }) number)
 
-    module _ (c : Command) (e : meaning (system_of s) d ≡ Taken c) where
+    module _ (c : Command) (e : Taken c ≡ decided (ruling (system_of s) (drop at bytes)) (decode (drop at bytes))) where
       -- what is taken can be done
       pub taken : (decode (drop at bytes) ≡ c) × (first_failed (tests (system_of s) c) ≡ 0)
-      taken = let (a, b, r) = taken-command (system_of s) (drop at bytes) d c g.is-sound m e in (a, b)
+      taken = let (a, b, r) = taken-command (system_of s) (drop at bytes) g.is-sound c e in (a, b)
 
       done_is : command (system_of s) (drop at bytes) ≡ record { refusal = 0; length = 1 + operands c; system = perform c (system_of s) }
-      done_is = (taken-command (system_of s) (drop at bytes) d c g.is-sound m e).2
+      done_is = (taken-command (system_of s) (drop at bytes) g.is-sound c e).2
 
       accepted : (command (system_of s) (drop at bytes)).refusal ≡ 0
       accepted = ap (λ (r : Result). r.refusal) done_is
@@ -162,7 +164,7 @@ module _ (list : Bool) (bytes old : List ℕ) (s₀ : System) (at₀ : ℕ) (s :
       listed-is = ap (λ b. list && b) (report-byte (system_of s) (drop at bytes) accepted ∙ ap is_report taken.0)
 
       -- a report with no room
-      pub stops_full : (list && is_report c) ≡ true → length old - size < longest_listing → said (record { stop = Full; at = at; size = size; system = s }) buffer ≡ gone list s₀ at₀ bytes old
+      pub stops_full : (list && is_report c) ≡ true → length old - size < longest_listing → said (record { stop = Full; at = at; size = size }) s buffer ≡ gone list s₀ at₀ bytes old
       stops_full b h = halts true 0 (go_full list (length old - size) (system_of s) at bytes accepted (listed-is ∙ b) h)
 
       module _ (w : ℕ) (we : w ≡ operands (decode (get_or bytes at 0 ∷ []))) where
@@ -189,15 +191,14 @@ module _ (list : Bool) (bytes old : List ℕ) (s₀ : System) (at₀ : ℕ) (s :
         after-sound = rw (ap (λ (r : Result). r.system) done_is) at (keeps_sound (system_of s) (drop at bytes) g.is-sound)
 
         -- done, and nothing listed
-        pub further : (list && is_report c) ≡ false → (s' : Layout) (size' : ℕ) (buffer' : List ℕ) → Wide s' → system_of s' ≡ perform c (system_of s) → size' ≡ size → buffer' ≡ buffer
+        pub further : (list && is_report c) ≡ false → (s' : Layout) (size' : ℕ) (buffer' : List ℕ) → system_of s' ≡ perform c (system_of s) → size' ≡ size → buffer' ≡ buffer
             → Going list bytes old s₀ at₀ s' (at + (1 + w)) size' buffer'
         unfolding next
-        further b s' size' buffer' wide is es eb =
+        further b s' size' buffer' is es eb =
             let none : to_list list (drop at bytes) ≡ false = listed-is ∙ b in
             let left : length old - size - 0 ≡ length old - size = omega arith in
             record {
               is-sound = rw is after-sound;
-              wide = wide;
               text = g.text;
               wrote = rw (es, eb) g.wrote;
               fits = omega (arith, g.fits);
@@ -217,7 +218,6 @@ module _ (list : Bool) (bytes old : List ℕ) (s₀ : System) (at₀ : ℕ) (s :
             let h : Halt = go_on list (length old - size - length (listing (system_of s))) (system_of s) (at + (1 + w)) bytes in
             record {
               is-sound = g.is-sound;
-              wide = g.wide;
               text = g.text ++ listing (system_of s);
               wrote = rw (es, eb) (wrote_part g.wrote wrote);
               fits = omega (arith, wrote.count);

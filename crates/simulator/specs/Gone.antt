@@ -5,6 +5,7 @@ use Rattle.election.specs.Commands.{number_of}
 use Rattle.election.specs.Onward.{Halt, go_on}
 use Rattle.election.specs.declared.System.{System}
 use Rattle.layout.specs.Layout.{system_of}
+use Rattle.layout.specs.declared.Layout.{Layout}
 use Rattle.simulator.specs.declared.rules.Onward.{Onward}
 use Rattle.simulator.specs.declared.rules.Stop.{Stop}
 use Rattle.simulator.specs.declared.rules.Stop.TheVariants.{Full, End, Refused}
@@ -34,7 +35,7 @@ leaving buffer h =
 abbrev pub gone : Bool → System → ℕ → List ℕ → List ℕ → Gone
 gone list s at bytes buffer = leaving buffer (go_on list (length buffer) s at bytes)
 
--- an answer, with the buffer as it is then
+-- an answer, with the system and the buffer as they are then
 abbrev pub full_of : Stop → Bool
 full_of Full = true
 full_of End = false
@@ -45,13 +46,13 @@ refusal_of Full = 0
 refusal_of End = 0
 refusal_of (Refused why) = number_of why
 
-abbrev pub said : Onward → List ℕ → Gone
-said r buffer =
+abbrev pub said : Onward → Layout → List ℕ → Gone
+said r s buffer =
     record {
       full = full_of r.stop;
       refusal = refusal_of r.stop;
       offset = r.at;
-      system = system_of r.system;
+      system = system_of s;
       written = r.size;
       buffer = buffer;
     }

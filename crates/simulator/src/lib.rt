@@ -3,56 +3,37 @@
 #![tactic(auto)]
 
 ghost use Rattle.std.specs.Prelude.{◌≡◌};
-ghost use Rattle.election.specs.Commands.{command, number_of, said};
+ghost use Rattle.election.specs.Commands.{command, said};
 ghost use Rattle.election.specs.Schedule.{schedule};
 ghost use Rattle.election.specs.Schedule.{said as saidSchedule};
 
 use crate::rules::{Stop, go_on};
 use decision::widths::width;
-use decision::{Decision, decide, named, none_started};
-use election::{Answer, Commanded, Ended, Refusal, Scheduled, System};
+use decision::{Seen, decide};
+use election::{Refusal, Scheduled, Stopped, System};
 use layout::rules::{fresh, layout_of, system_of};
 use soundness::sound;
 
+mod obeying;
 pub mod rules;
 
-// A command that is turned down.
-fn refused(why: Refusal, s: System) -> Commanded
-    ensures { said result ≡ record { refusal = number_of why; length = 0; system = s } }
-{
-    Commanded {
-        answer: Answer::Refused(why),
-        system: s,
-    }
-}
+// The most bytes of a schedule.
+const MOST_BYTES: usize = 65536;
 
-// Does the first command of the bytes, or leaves the system as it is.
-pub fn command(s: System, bytes: &[u8]) -> Commanded
-    ensures { said result ≡ command s bytes.now }
+// Does the first command of the bytes, and answers its length. Turned down, it leaves the system as it is.
+pub fn command(s: &mut System, bytes: &[u8]) -> Result<usize, Refusal>
+    ensures { said result s.new ≡ command s.old bytes.now }
 {
     if !sound(s) {
-        return refused(Refusal::Unsound, s);
+        return Err(Refusal::Unsound);
     }
-    let k = named(bytes);
-    let d = decide(s.ready, s.clock, s.n, s.tick, s.stations[k], bytes);
-    if let Decision::Refused(why) = d {
-        return refused(why, s);
-    }
-    if let Decision::Rank { .. } = d {
-        let stations = s.stations;
-        if !none_started(stations) {
-            return refused(Refusal::AlreadyStarted, s);
-        }
-    }
-    // taken: the owner does it, asked for no listings
+    decide(&Seen::from(&*s), bytes)?;
+    // taken: it is done by going on with its bytes, asked for no listings
     let size = 1 + width(bytes[0]);
-    let mut none = [0u8; 1];
-    let r = go_on(layout_of(s), 0, &bytes[..size], false, &mut none);
-    let after = r.system;
-    Commanded {
-        answer: Answer::Done(size),
-        system: system_of(after),
-    }
+    let mut layout = layout_of(s);
+    go_on(&mut layout, 0, &bytes[..size], false, &mut []);
+    *s = system_of(&layout);
+    Ok(size)
 }
 
 // Does the commands of a schedule in order, from the fresh system, up to the first refusal.
@@ -60,32 +41,27 @@ pub fn command(s: System, bytes: &[u8]) -> Commanded
 pub fn schedule(bytes: &[u8]) -> Scheduled
     ensures { saidSchedule result ≡ schedule bytes.now }
 {
-    if 65536 < bytes.len() {
+    let mut layout = fresh();
+    if MOST_BYTES < bytes.len() {
         return Scheduled {
-            ended: Ended::Stopped {
+            ended: Err(Stopped {
                 at: 0,
                 refusal: Refusal::ScheduleLong,
-            },
-            system: system_of(fresh()),
+            }),
+            system: system_of(&layout),
         };
     }
-    let mut none = [0u8; 1];
-    let r = go_on(fresh(), 0, bytes, false, &mut none);
-    let stop = r.stop;
-    let last = r.system;
-    let system = system_of(last);
-    match stop {
-        Stop::Refused(why) => Scheduled {
-            ended: Ended::Stopped {
-                at: r.at,
-                refusal: why,
-            },
-            system,
-        },
+    let gone = go_on(&mut layout, 0, bytes, false, &mut []);
+    let ended = match gone.stop {
+        Stop::Refused(refusal) => Err(Stopped {
+            at: gone.at,
+            refusal,
+        }),
         // asked for no listings, it never stops for want of room
-        _ => Scheduled {
-            ended: Ended::Whole(r.at),
-            system,
-        },
+        _ => Ok(gone.at),
+    };
+    Scheduled {
+        ended,
+        system: system_of(&layout),
     }
 }

@@ -6,146 +6,105 @@ ghost use Rattle.std.specs.Prelude.{◌≡◌, ◌+◌, ◌<◌, ◌≤◌};
 ghost use Rattle.lists.specs.Test.{all_to};
 ghost use Rattle.election.specs.Heads.{ranked_of};
 ghost use Rattle.election.specs.System.{places, is_link};
-ghost use Rattle.election.specs.Sound.{empty_station, empty_message, message_in, before_slot, message_place, apart, spaced, places_in, ordered, link_in, empty_places, link_place, station_place, place_in, station_in, sound};
+ghost use Rattle.election.specs.Sound.{empty_station, empty_message, message_in, before_slot, message_place, apart, places_in, ordered, link_in, empty_places, station_in, place_in, sound};
 
 use election::{Link, Message, PLACES, System};
-use fit::{LONGEST_DELAY, cleared, counts_in, ranks_in, wide};
+use fit::{LONGEST_DELAY, cleared, counts_in, ranks_in};
 use heads::rules::{content_in, fits};
-use station::{LAST_TICK, Station};
-
-// The longest delay in ticks, and the count of a link whose places are all used.
-const LONGEST: u32 = LONGEST_DELAY as u32;
-
-const FULL: u8 = PLACES as u8;
+use station::{LAST_TICK, Seat, Station};
 
 // A number of ticks after a tick.
 fn later(tick: u32, ticks: u32) -> u64
     ensures { result ≡ tick + ticks }
 {
-    wide(tick) + wide(ticks)
+    u64::from(tick) + u64::from(ticks)
 }
 
 // Whether a place beyond the stations is zero.
-fn empty_station(x: Station) -> bool
-    ensures { result ≡ empty_station x }
+#[tactic(auto, unfolding(election::specs::Sound::empty_station))]
+fn empty_station(x: &Station) -> bool
+    ensures { result ≡ empty_station x.now }
 {
-    (x.incarnation == 0) & (x.stable == 0) & !x.up & cleared(x)
+    x.incarnation == 0 && x.stable == 0 && !x.up && cleared(x)
 }
 
 // Whether an unused place of a link is zero.
-fn empty_message(m: Message) -> bool
-    ensures { result ≡ empty_message m }
+#[tactic(auto, unfolding(election::specs::Sound::empty_message))]
+fn empty_message(m: &Message) -> bool
+    ensures { result ≡ empty_message m.now }
 {
-    let v = m.counts;
-    (m.sent == 0) & (m.due == 0) & (counts_in(0, v) & (m.stamp == 0))
+    m.sent == 0 && m.due == 0 && counts_in(0, &m.counts) && m.stamp == 0
 }
 
 // Whether a message's ticks and what it carries are in range.
-fn message_in(clock: bool, n: u8, period: u32, tick: u32, m: Message) -> bool
-    ensures { result ≡ message_in clock n period tick m }
+#[tactic(auto, unfolding(election::specs::Sound::message_in))]
+fn message_in(s: &System, m: &Message) -> bool
+    ensures { result ≡ message_in s.now.clock s.now.n s.now.period s.now.tick m.now }
 {
-    let last = later(m.sent, LONGEST);
-    let content = content_in(clock, n, period, tick, m);
-    (m.sent <= tick) & (tick < m.due) & (wide(m.due) <= last) & content
+    m.sent <= s.tick
+        && s.tick < m.due
+        && u64::from(m.due) <= later(m.sent, u32::from(LONGEST_DELAY))
+        && content_in(s.clock, s.n, s.period, s.tick, m)
 }
 
 // Whether an up sender's next send chance is at least a period after the sending.
-fn before_slot(period: u32, sender: Station, m: Message) -> bool
-    ensures { result ≡ before_slot period sender m }
+#[tactic(auto, unfolding(election::specs::Sound::before_slot))]
+fn before_slot(period: u32, sender: &Station, m: &Message) -> bool
+    ensures { result ≡ before_slot period sender.now m.now }
 {
-    let first = later(m.sent, period);
-    let slot = wide(sender.slot);
-    if sender.up { first <= slot } else { true }
+    !sender.up || later(m.sent, period) <= u64::from(sender.slot)
 }
 
 // Whether a place of a link holds a message if it is used, and else is zero.
-fn message_place(
-    clock: bool,
-    n: u8,
-    period: u32,
-    tick: u32,
-    sender: Station,
-    used: bool,
-    m: Message,
-) -> bool
-    ensures { result ≡ message_place clock n period tick sender used m }
+fn message_place(s: &System, sender: &Station, used: bool, m: &Message) -> bool
+    ensures { result ≡ message_place s.now.clock s.now.n s.now.period s.now.tick sender.now used m.now }
 {
     if used {
-        message_in(clock, n, period, tick, m) & before_slot(period, sender, m)
+        message_in(s, m) && before_slot(s.period, sender, m)
     } else {
         empty_message(m)
     }
 }
 
 // Whether all places of a link hold messages as far as they are used, and are zero beyond.
-fn places_in(clock: bool, n: u8, period: u32, tick: u32, sender: Station, l: Link) -> bool
-    ensures { result ≡ places_in clock n period tick sender l }
+fn places_in(s: &System, sender: &Station, l: &Link) -> bool
+    ensures { result ≡ places_in s.now.clock s.now.n s.now.period s.now.tick sender.now l.now }
 {
-    let ms = l.messages;
-    for k in 0..PLACES {
-        let used = k < l.used as usize;
-        if !message_place(clock, n, period, tick, sender, used, ms[k]) {
-            return false;
-        }
-    }
-    true
+    l.messages.iter().enumerate().all(|(k, m)| message_place(s, sender, k < usize::from(l.used), m))
 }
 
 // Whether two sendings lie at least a period apart.
-fn apart(period: u32, older: Message, younger: Message) -> bool
-    ensures { result ≡ apart period older younger }
+fn apart(period: u32, older: &Message, younger: &Message) -> bool
+    ensures { result ≡ apart period older.now younger.now }
 {
-    let first = later(older.sent, period);
-    first <= wide(younger.sent)
-}
-
-// Whether the message at place k was sent at least a period before the one after it, if there is one.
-fn spaced(period: u32, l: Link, k: usize) -> bool
-    requires { (l.used ≤ places) × (k < places) }
-    ensures { result ≡ spaced period l k }
-{
-    let ms = l.messages;
-    if k + 1 < l.used as usize {
-        apart(period, ms[k], ms[k + 1])
-    } else {
-        true
-    }
+    later(older.sent, period) <= u64::from(younger.sent)
 }
 
 // Whether the messages of a link stand oldest first, sendings at least a period apart.
-fn ordered(period: u32, l: Link) -> bool
-    requires { l.used ≤ places }
-    ensures { result ≡ ordered period l }
+fn ordered(period: u32, l: &Link) -> bool
+    requires { l.now.used ≤ places }
+    ensures { result ≡ ordered period l.now }
 {
-    for k in 0..PLACES {
-        if !spaced(period, l, k) {
-            return false;
-        }
-    }
-    true
+    l.messages
+        .iter()
+        .zip(l.messages.iter().skip(1))
+        .take(usize::from(l.used).saturating_sub(1))
+        .all(|(older, younger)| apart(period, older, younger))
 }
 
 // Whether a link between two stations is in range.
-fn link_in(clock: bool, n: u8, period: u32, tick: u32, sender: Station, l: Link) -> bool
-    ensures { result ≡ link_in clock n period tick sender l }
+#[tactic(auto, unfolding(election::specs::Sound::link_in))]
+fn link_in(s: &System, sender: &Station, l: &Link) -> bool
+    ensures { result ≡ link_in s.now.clock s.now.n s.now.period s.now.tick sender.now l.now }
 {
-    if FULL < l.used {
-        return false;
-    }
-    places_in(clock, n, period, tick, sender, l) & ordered(period, l)
+    usize::from(l.used) <= PLACES && places_in(s, sender, l) && ordered(s.period, l)
 }
 
 // Whether all places of a link are zero.
-fn empty_places(l: Link) -> bool
-    ensures { result ≡ empty_places l }
+fn empty_places(l: &Link) -> bool
+    ensures { result ≡ empty_places l.now }
 {
-    let ms = l.messages;
-    for k in 0..PLACES {
-        if !empty_message(ms[k]) {
-            return false;
-        }
-    }
-    true
+    l.messages.iter().all(|m| empty_message(m))
 }
 
 // Whether the link from p to q is one of the system's.
@@ -153,89 +112,58 @@ fn is_link(n: u8, p: u8, q: u8) -> bool
     requires { (1 ≤ p) × (1 ≤ q) }
     ensures { result ≡ is_link n p q }
 {
-    (p - 1 < n) & (q - 1 < n) & !(p == q)
+    p - 1 < n && q - 1 < n && p != q
 }
 
-// Whether the place of the link from p to q is in range, with its delay and sender.
-fn link_place(
-    clock: bool,
-    n: u8,
-    period: u32,
-    tick: u32,
-    p: u8,
-    q: u8,
-    delay: u8,
-    sender: Station,
-    l: Link,
-) -> bool
-    requires { (1 ≤ p) × (1 ≤ q) }
-    ensures { result ≡ link_place clock n period tick p q delay sender l }
+// Whether place k of the links is in range, with its delay and sender.
+#[tactic(auto, using(election::proofs::Places::seat_of), unfolding(election::specs::Sound::place_in, election::specs::Sound::empty_place))]
+fn place_in(s: &System, k: u8) -> bool
+    requires { k < 64 }
+    ensures { result ≡ place_in s.now k }
 {
-    if is_link(n, p, q) {
+    let (p, q) = (k / 8 + 1, k % 8 + 1);
+    let delay = s.delays[usize::from(k)];
+    let l = &s.links[usize::from(k)];
+    if is_link(s.n, p, q) {
         // every byte is a delay
-        link_in(clock, n, period, tick, sender, l)
+        link_in(s, &s.stations[usize::from(p - 1)], l)
     } else {
-        (delay == 0) & (l.used == 0) & empty_places(l)
+        delay == 0 && l.used == 0 && empty_places(l)
     }
 }
 
-// Whether a place of the stations is in range, with its sent count.
-fn station_place(clock: bool, n: u8, period: u32, tick: u32, k: u8, x: Station, sent: u32) -> bool
+// Whether place k of the stations is in range, with its sent count.
+#[tactic(auto, unfolding(election::specs::Sound::station_in, election::specs::Sound::empty_seat))]
+fn station_in(s: &System, k: u8) -> bool
     requires { k < 8 }
-    ensures { result ≡ station_place clock n period tick k x sent }
+    ensures { result ≡ station_in s.now k }
 {
-    let most = 7 * wide(tick);
-    if k < n {
-        fits(clock, k + 1, n, period, tick, x) & (wide(sent) <= most)
+    let x = &s.stations[usize::from(k)];
+    let sent = s.sent[usize::from(k)];
+    if k < s.n {
+        let seat = Seat {
+            me: k + 1,
+            n: s.n,
+            period: s.period,
+        };
+        fits(s.clock, seat, s.tick, x) && u64::from(sent) <= 7 * u64::from(s.tick)
     } else {
-        empty_station(x) & (sent == 0)
+        empty_station(x) && sent == 0
     }
 }
 
 // Whether every clause of soundness holds of the stations.
-fn stations_in(s: System) -> bool
-    ensures { result ≡ all_to 8 (station_in s) }
+fn stations_in(s: &System) -> bool
+    ensures { result ≡ all_to 8 (station_in s.now) }
 {
-    for k in 0..8 {
-        if !station_place(
-            s.clock,
-            s.n,
-            s.period,
-            s.tick,
-            k as u8,
-            s.stations[k],
-            s.sent[k],
-        ) {
-            return false;
-        }
-    }
-    true
+    (0..8).all(|k| station_in(s, k))
 }
 
 // Whether every clause of soundness holds of the links.
-fn links_in(s: System) -> bool
-    ensures { result ≡ all_to 64 (place_in s) }
+fn links_in(s: &System) -> bool
+    ensures { result ≡ all_to 64 (place_in s.now) }
 {
-    for k in 0..64 {
-        let p = k / 8;
-        let q = k % 8;
-        let from = p as u8 + 1;
-        let to = q as u8 + 1;
-        if !link_place(
-            s.clock,
-            s.n,
-            s.period,
-            s.tick,
-            from,
-            to,
-            s.delays[k],
-            s.stations[p],
-            s.links[k],
-        ) {
-            return false;
-        }
-    }
-    true
+    (0..64).all(|k| place_in(s, k))
 }
 
 // How many stations may have a rank: none of clock heads.
@@ -246,15 +174,15 @@ fn ranked_of(clock: bool, n: u8) -> u8
 }
 
 // Whether a system is sound.
-pub fn sound(s: System) -> bool
-    ensures { result ≡ sound s }
+#[tactic(auto, unfolding(election::specs::Sound::sound))]
+pub fn sound(s: &System) -> bool
+    ensures { result ≡ sound s.now }
 {
-    if !s.ready {
-        return true;
-    }
-    let numbers = ((2 <= s.n) & (s.n <= 8))
-        & ((16 <= s.period) & (s.period <= 255))
-        & (s.tick <= LAST_TICK);
-    let ranks = s.ranks;
-    numbers & stations_in(s) & links_in(s) & ranks_in(ranked_of(s.clock, s.n), ranks)
+    !s.ready
+        || ((2..=8).contains(&s.n)
+            && (16..=255).contains(&s.period)
+            && s.tick <= LAST_TICK
+            && stations_in(s)
+            && links_in(s)
+            && ranks_in(ranked_of(s.clock, s.n), &s.ranks))
 }

@@ -11,6 +11,9 @@ use borrow.Rule.Slice.PartMut.{put_mid}
 use Rattle.lists.specs.Entries.{over}
 use Rattle.lists.proofs.Entries.{over-nil, over-snoc, length_over, take_over}
 use Rattle.lists.specs.Join.{join_to}
+use mathlib.Core.Bool.{Bool, true, false, cond}
+use Rattle.std.specs.Bool.{then_some}
+use Rattle.text.specs.Choice.{or_dash}
 use Rattle.text.specs.Wrote.{Wrote}
 
 -- an entry more at the place after what was written
@@ -98,3 +101,12 @@ join_room f k (suc n) {m} h r = go (dec_lt k n) (join_room f k n)
 pub join_size : (f : ℕ → List ℕ) (k : ℕ) {size r : ℕ} → size ≡ length (join_to k f) → r ≡ length (f k) → size + r ≡ length (join_to (k + 1) f)
 unfolding join_to
 join_size f k e h = rw (add-one k, length-append (join_to k f) (f k), e, h)
+
+-- which stay below what all of them stay below
+pub join_below : (f : ℕ → List ℕ) (k n : ℕ) {size r m : ℕ} → k < n → length (join_to n f) < m → size ≡ length (join_to k f) → r ≡ length (f k) → size + r < m
+join_below f k n h b e g = omega (arith, join_room f k n {m = length (join_to n f)} h (omega arith), length-append (join_to k f) (f k), b, e, g)
+
+-- a text that is shown or not
+pub or_dash-then_some : {A : Type 0} (f : A → List ℕ) (b : Bool) (x : A) → or_dash f (then_some b x) ≡ cond b (f x) (0x2d ∷ [])
+or_dash-then_some f true x = refl
+or_dash-then_some f false x = refl

@@ -1,5 +1,5 @@
 -- Hex text: two digits for each byte, which stand together, and any blanks around bytes.
-use Rattle.std.specs.Prelude.{List, [], ◌∷◌, Bool, true, false, cond, ◌&&◌, ◌||◌, ℕ, ◌+◌, ◌*◌, ◌-◌, ◌/◌, ◌%◌, leb, ltb, eqb}
+use Rattle.std.specs.Prelude.{List, [], ◌∷◌, Bool, true, false, cond, ◌&&◌, ◌||◌, ℕ, ◌+◌, ◌*◌, ◌-◌, ◌/◌, ◌%◌, Option, Some, None, take, leb, ltb, eqb}
 
 -- a space, a tab or a carriage return
 unfoldable pub is_blank : ℕ → Bool
@@ -33,6 +33,11 @@ spelled (c ∷ []) = cond (is_blank c) (record { hex = true; bytes = [] }) no_he
 spelled (c ∷ d ∷ line) =
     let rest : Spelled = spelled line in
     cond (is_blank c) (spelled (d ∷ line)) (cond (is_digit c && is_digit d) (with_first (16 * digit_of c + digit_of d) rest) no_hex)
+
+-- what a reader answers, with the buffer that it read into: so many bytes at its front, or no hex
+abbrev pub read : Option ℕ → List ℕ → Spelled
+read (Some size) buffer = record { hex = true; bytes = take size buffer }
+read None buffer = no_hex
 
 -- bytes as hex text, in lower case
 unfoldable pub digit : ℕ → ℕ

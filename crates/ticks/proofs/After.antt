@@ -15,7 +15,6 @@ use Rattle.election.specs.Heads.{slotting_of, slotting}
 use Rattle.lists.specs.Entries.{firsts}
 use Rattle.lists.proofs.Bools.{both, cond_yes, cond_no}
 use Rattle.lists.proofs.Entries.{firsts-zero, firsts-turn, firsts-beyond, firsts-idle, length-firsts}
-use Rattle.station.specs.Limits.{last_tick, longest}
 use Rattle.station.specs.declared.Station.{Station}
 use Rattle.election.specs.Idle.{quiet_station, quiet_link}
 use Rattle.election.specs.System.{no_station, no_link, from, to, messages, holding, is_link, with_links, with_stations, with_sent, renewed, places}
@@ -25,54 +24,8 @@ use Rattle.election.specs.declared.Message.{Message}
 use Rattle.election.specs.declared.System.{System}
 use Rattle.election.proofs.Places.{is-link, seat_in}
 use Rattle.election.proofs.Soundness.{no_self}
-use Rattle.ticks.specs.Sending.{sent_over, sends_now}
-
--- m is the system of n stations where (c) begins: after (a) and (b), its links without what was due now. now is the tick.
-
--- the station at place k sends LEADER
-abbrev pub sends_at : ℕ → System → ℕ → Bool
-sends_at now m k = sends_now m.clock (k + 1) now (get_or m.stations k no_station)
-
--- what stands at place k after the tick: station, sent count, link
-unfoldable pub station_after : ℕ → System → ℕ → Station
-station_after now m k = slotted_now (slotting m (k + 1) now) now (get_or m.stations k no_station)
-
-unfoldable pub sent_after : ℕ → System → ℕ → ℕ
-sent_after now m k = cond (sends_at now m k) (get_or m.sent k 0 + (m.n - 1)) (get_or m.sent k 0)
-
-abbrev pub new_link : ℕ → System → ℕ → ℕ → Link
-new_link now m p k = holding (messages (get_or m.links k no_link) ++ sent_over now (sends_at now m p) (get_or m.delays k 0) (get_or m.stations p no_station))
-
-unfoldable pub link_after : ℕ → ℕ → System → ℕ → Link
-link_after n now m k = cond (is_link n (from k) (to k)) (new_link now m (k / 8) k) (get_or m.links k no_link)
-
--- the system in which the first p stations, c sent counts and k links are after the tick
-unfoldable pub sent_to : ℕ → ℕ → System → ℕ → ℕ → ℕ → System
-sent_to n now m p c k =
-    renewed m.tick (firsts p (station_after now m) m.stations) (firsts c (sent_after now m) m.sent) m.delays (firsts k (link_after n now m) m.links) m.ranks m
-
--- what the sending is given
-pub record Mid (n now : ℕ) (m : System) : Type 0 where
-  pub size : m.n ≡ n
-  pub n-low : 2 ≤ n
-  pub n-high : n ≤ 8
-  pub early : now ≤ last_tick
-  pub period-high : m.period ≤ 255
-  pub stations-long : length m.stations ≡ 8
-  pub sent-long : length m.sent ≡ 8
-  pub links-long : length m.links ≡ 64
-  pub sent-low : (p : ℕ) → p < n → get_or m.sent p 0 ≤ 7000000
-  pub safe : (p : ℕ) → p < n → (get_or m.stations p no_station).slot ≡ now → (get_or m.stations p no_station).timeout ≤ longest last_tick
-  pub room : (p q : ℕ) → p < n → q < n → (p ≡ q → ⊥) → length (messages (get_or m.links (8 * p + q) no_link) ++ sent_over now (sends_at now m p) (get_or m.delays (8 * p + q) 0) (get_or m.stations p no_station)) ≤ places
-  pub held : (k : ℕ) → k < 64 → is_link n (from k) (to k) ≡ true → holding (messages (get_or m.links k no_link)) ≡ get_or m.links k no_link
-
--- so far, and nothing of what is done, or was on a link before, is due after now and up to a tick
-pub record Part (n now : ℕ) (m : System) (until : ℕ) (s : System) (p c k : ℕ) : Type 0 where
-  pub mid : Mid n now m
-  pub same : s ≡ sent_to n now m p c k
-  pub calm_stations : (t j : ℕ) → now < t → t ≤ until → j < p → quiet_station t (station_after now m j) ≡ true
-  pub calm_links : (t j : ℕ) → now < t → t ≤ until → j < k → quiet_link t (link_after n now m j) ≡ true
-  pub calm_kept : (t j : ℕ) → now < t → t ≤ until → j < 64 → quiet_link t (get_or m.links j no_link) ≡ true
+use Rattle.ticks.specs.Sending.{sent_over}
+use Rattle.ticks.specs.Chances.{sends_at, station_after, sent_after, new_link, link_after, sent_to, Mid, Part}
 
 pub part_none : (n now : ℕ) (m : System) (until : ℕ) → Mid n now m → ((t j : ℕ) → now < t → t ≤ until → j < 64 → quiet_link t (get_or m.links j no_link) ≡ true)
     → Part n now m until m 0 0 0

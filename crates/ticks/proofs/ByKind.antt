@@ -2,10 +2,10 @@
 use mathlib.Core.Path.{◌≡◌, sym, ap, ◌∙◌}
 use mathlib.Core.Bool.{true, false}
 use Prim.Native.Nat.{ℕ}
-use Rattle.station.specs.Rules.{heard, expired, slotted}
+use Rattle.station.specs.Rules.{heard, slotted}
 use Rattle.station.specs.declared.Station.{Station}
-use Rattle.clock.specs.Rules.{heard as clockHeard, expired as clockExpired, slotted as clockSlotted}
-use Rattle.election.specs.Heads.{hearing_of, expiring_of, slotting_of, hearing}
+use Rattle.clock.specs.Rules.{heard as clockHeard, slotted as clockSlotted}
+use Rattle.election.specs.Heads.{hearing_of, slotting_of, hearing}
 use Rattle.election.specs.declared.Message.{Message}
 use Rattle.layout.specs.Layout.{system_of}
 use Rattle.layout.specs.declared.Layout.{Layout}
@@ -16,13 +16,6 @@ module _ (s : Layout) (me q : ℕ) (m : Message) (now : ℕ) (x v : Station) whe
 
   pub heard-flash : s.clock ≡ false → v ≡ heard s.ranks me q m.counts now x → v ≡ hearing (system_of s) me q m now x
   heard-flash k e = e ∙ ap (λ b. hearing_of b s.ranks me q m now x) (sym k)
-
-module _ (s : Layout) (me : ℕ) (x v : Station) where
-  pub expired-clock : s.clock ≡ true → v ≡ clockExpired me x → v ≡ expiring_of s.clock me x
-  expired-clock k e = e ∙ ap (λ b. expiring_of b me x) (sym k)
-
-  pub expired-flash : s.clock ≡ false → v ≡ expired me x → v ≡ expiring_of s.clock me x
-  expired-flash k e = e ∙ ap (λ b. expiring_of b me x) (sym k)
 
 module _ (s : Layout) (me now : ℕ) (x v : Station) where
   pub slotted-clock : s.clock ≡ true → v ≡ clockSlotted me s.period now x → v ≡ slotting_of s.clock me s.period now x

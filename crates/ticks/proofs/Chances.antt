@@ -7,12 +7,11 @@ use native.Mathlib.Decide.{dec_lt, ℕ_discrete}
 use native.Mathlib.Omega.{arith}
 use lib.Dec.{eqb}
 use lib.ListN.{length, get_or, set, length-set}
-use lib.Seq.{ext_get_or, set-get_or, get_or-set_same, get_or-set_other}
+use lib.Seq.{ext_get_or, get_or-set_same, get_or-set_other}
 use borrow.Author.Tests.{ne_eqb}
-use Rattle.lists.proofs.Bools.{cond_yes, cond_no}
 use Rattle.lists.proofs.Entries.{firsts-get, firsts-beyond}
 use Rattle.clock.specs.Rules.{carried as clockCarried}
-use Rattle.election.specs.Heads.{expiring_of, slotting_of}
+use Rattle.election.specs.Heads.{slotting_of}
 use Rattle.station.specs.declared.Station.{Station}
 use Rattle.layout.specs.Layout.{system_of}
 use Rattle.layout.specs.declared.Layout.{Layout}
@@ -20,21 +19,11 @@ use Rattle.layout.proofs.Stores.{Wide, with_messages, with_used, with_stations, 
 use Rattle.election.specs.Idle.{quiet_station}
 use Rattle.election.specs.System.{no_station, places}
 use Rattle.election.specs.declared.System.{System}
-use Rattle.ticks.specs.Sending.{sends_now, timer_ends}
-use Rattle.ticks.proofs.After.{Part, sends_at, part_beyond, part_long, part_sent, part_n, part_period, part_clock, part_row, part_rests, part_skips, part_counts, part_silent, part_slots, part_waits}
-use Rattle.ticks.proofs.Hearing.{ended_at, ended_to}
-use Rattle.ticks.proofs.Quiet.{Before}
+use Rattle.ticks.specs.Sending.{sends_now}
+use Rattle.ticks.proofs.After.{part_beyond, part_long, part_sent, part_n, part_period, part_clock, part_row, part_rests, part_skips, part_counts, part_silent, part_slots, part_waits}
 use Rattle.ticks.proofs.Sent.{place-free, message-sent}
-use Rattle.ticks.proofs.Silent.{Silent}
-
--- s₀ is the system after (a). In s the timers of the first e stations have ended if they were due; the rest is part of (c) where all have.
-pub record Chances (n now : ℕ) (s₀ : System) (until : ℕ) (s : Layout) (e p c k : ℕ) : Type 0 where
-  pub stations : List Station
-  pub part : Part n now (ended_to n now s₀) until (system_of (with_stations stations s)) p c k
-  pub done : (j : ℕ) → j < p → get_or s.stations j no_station ≡ get_or stations j no_station
-  pub ended : (j : ℕ) → p ≤ j → j < e → get_or s.stations j no_station ≡ get_or (ended_to n now s₀).stations j no_station
-  pub rest : (j : ℕ) → e ≤ j → get_or s.stations j no_station ≡ get_or s₀.stations j no_station
-  pub long : length s.stations ≡ 8
+use Rattle.ticks.specs.Chances.{ended_in, sends_at, Part, ended_at, ended_to, Chances, Turn}
+use Rattle.ticks.specs.Delivering.{Before, Silent}
 
 pub chances_first : (n now : ℕ) (until : ℕ) (s : Layout) → length s.stations ≡ 8 → Part n now (ended_to n now (system_of s)) until (ended_to n now (system_of s)) 0 0 0 → Chances n now (system_of s) until s 0 0 0 0
 chances_first n now until s long a =
@@ -66,14 +55,9 @@ module _ (n now : ℕ) (s₀ : System) (until : ℕ) (s : Layout) (p c k : ℕ) 
           get_or-set_same s.stations p v no_station (omega (arith, a.long)) ∙ e ∙ ap (ended_at s₀.clock now p) chances_heard
           ∙ sym (firsts-get n (λ k. ended_at s₀.clock now k (get_or s₀.stations k no_station)) s₀.stations p no_station hp)
 
-  chances_ends : (y : Layout) (v : Station) → timer_ends now (get_or s.stations p no_station) ≡ true → v ≡ expiring_of s.clock (p + 1) (get_or s.stations p no_station) → y ≡ with_stations (set s.stations p v) s
-      → Chances n now s₀ until y (p + 1) p c k
-  chances_ends y v t e g =
-      ends y v (e ∙ ap (λ k. expiring_of k (p + 1) (get_or s.stations p no_station)) (part_clock n now (ended_to n now s₀) until (system_of (with_stations a.stations s)) p c k a.part) ∙ sym (cond_yes _ _ t)) g
-
-  chances_stays : (y : Layout) → timer_ends now (get_or s.stations p no_station) ≡ false → y ≡ s → Chances n now s₀ until y (p + 1) p c k
-  chances_stays y t g =
-      ends y (get_or s.stations p no_station) (sym (cond_no _ _ t)) (g ∙ ap (λ xs. with_stations xs s) (sym (set-get_or s.stations p no_station)))
+  chances_ended : (y : Layout) → y ≡ ended_in now p s → Chances n now s₀ until y (p + 1) p c k
+  chances_ended y g =
+      ends y (ended_at s.clock now p (get_or s.stations p no_station)) (ap (λ b. ended_at b now p (get_or s.stations p no_station)) (part_clock n now (ended_to n now s₀) until (system_of (with_stations a.stations s)) p c k a.part)) g
 
 -- its send chance
 module _ (n now : ℕ) (s₀ : System) (until : ℕ) (s : Layout) (p c k : ℕ) (a : Chances n now s₀ until s (p + 1) p c k) (hp : p < n) where
@@ -217,33 +201,16 @@ chances_done n now s₀ until s p a z hn =
             part_beyond n now (ended_to n now s₀) until (system_of (with_stations a.stations s)) p p (8 * p) a.part j (omega arith)
             ∙ (rw e at (firsts-beyond n (j - n) (λ k. ended_at s₀.clock now k (get_or s₀.stations k no_station)) s₀.stations no_station)) ∙ sym (a.rest j (omega arith))
 
--- the same with what the code keeps beside: a bound, full arrays and the marks
-pub record Turn (n now : ℕ) (s₀ : System) (end until : ℕ) (s : Layout) (busy : List Bool) (e p c k : ℕ) : Type 0 where
-  pub high : until ≤ end
-  pub wide : Wide s
-  pub silent : Silent n s.used busy (8 * n)
-  pub chances : Chances n now s₀ until s e p c k
-
 module _ (n now : ℕ) (s₀ : System) (end until : ℕ) (s : Layout) (busy : List Bool) (p : ℕ) (hp : p < n) (hn : n ≤ 8) where
   -- its timer
   module _ (a : Turn n now s₀ end until s busy p p p (8 * p)) where
-    pub turn_ends : (y : Layout) (v : Station) → timer_ends now (get_or s.stations p no_station) ≡ true → v ≡ expiring_of s.clock (p + 1) (get_or s.stations p no_station) → y ≡ with_stations (set s.stations p v) s
-        → Turn n now s₀ end until y busy (p + 1) p p (8 * p)
-    turn_ends y v t e g =
+    pub turn_ended : (y : Layout) → y ≡ ended_in now p s → Turn n now s₀ end until y busy (p + 1) p p (8 * p)
+    turn_ended y g =
         record {
           high = a.high;
           wide = subst Wide (sym g) (record { used = a.wide.used; messages = a.wide.messages });
           silent = subst (λ (z : Layout). Silent n z.used busy (8 * n)) (sym g) a.silent;
-          chances = chances_ends n now s₀ until s p p (8 * p) a.chances hp hn y v t e g;
-        }
-
-    pub turn_stays : (y : Layout) → timer_ends now (get_or s.stations p no_station) ≡ false → y ≡ s → Turn n now s₀ end until y busy (p + 1) p p (8 * p)
-    turn_stays y t g =
-        record {
-          high = a.high;
-          wide = subst Wide (sym g) a.wide;
-          silent = subst (λ (z : Layout). Silent n z.used busy (8 * n)) (sym g) a.silent;
-          chances = chances_stays n now s₀ until s p p (8 * p) a.chances hp hn y t g;
+          chances = chances_ended n now s₀ until s p p (8 * p) a.chances hp hn y g;
         }
 
   -- it has sent over all its links, or it does not send

@@ -8,7 +8,7 @@ use native.Mathlib.Omega.{arith}
 use lib.Dec.{ltb, eqb}
 use lib.ListN.{length, get_or, take}
 use borrow.Author.Tests.{eqb-true, lt-ltb, le-ltb}
-use Rattle.election.specs.Heads.{expiring_of, hearing, expiring}
+use Rattle.election.specs.Heads.{hearing, expiring}
 use Rattle.lists.specs.Entries.{firsts}
 use Rattle.lists.specs.Fold.{each}
 use Rattle.lists.proofs.Bools.{both, cond_yes, cond_no, cond_elim}
@@ -24,10 +24,8 @@ use Rattle.election.specs.declared.System.{System}
 use Rattle.election.proofs.Steps.{heard-none, heard_all-unchanged, heard_all-timeouts}
 use Rattle.ticks.specs.Sending.{Ticking, hears, timer_ends}
 use Rattle.ticks.proofs.Ready.{timeout-at, timer_at}
-
--- the station at place p after the first q senders
-unfoldable pub heard_from : System → ℕ → ℕ → Station
-heard_from s p q = each q (λ k. hears (hearing s) (p + 1) (k + 1) (s.tick + 1) (underway s (k + 1) (p + 1))) (get_or s.stations p no_station)
+use Rattle.ticks.specs.Chances.{ended_at, ended_to}
+use Rattle.ticks.specs.Delivering.{heard_from, Hearing}
 
 -- the system whose first p stations are after (a) and (b)
 unfoldable pub settled_to : System → ℕ → System
@@ -123,22 +121,11 @@ module _ (s : System) (p q : ℕ) where
       each_turn q _ _ (heard_from s p q) (heard_from s p q) refl
       (sym (cond_elim (λ x. x ≡ heard_from s p q) (heard_from s p q).up (λ u. heard-none (hearing s) (p + 1) (q + 1) (s.tick + 1) (underway s (q + 1) (p + 1)) (heard_from s p q) (sym inbox ∙ ap (λ u. take u (get_or s.links (8 * q + p) no_link).messages) z)) (λ u. refl)))
 
--- in s the first p of n stations have heard one sender more than the first q senders of r, the others just those
-pub record Hearing (r : System) (n p q : ℕ) (s : System) : Type 0 where
-  pub same : with_links r.links s ≡ with_stations s.stations r
-  pub long : length s.stations ≡ 8
-  pub heard : (j : ℕ) → j < p → j < n → get_or s.stations j no_station ≡ heard_from r j (q + 1)
-  pub waits : (j : ℕ) → p ≤ j → j < n → get_or s.stations j no_station ≡ heard_from r j q
-  pub others : (j : ℕ) → n ≤ j → get_or s.stations j no_station ≡ get_or r.stations j no_station
-
 pub hearing-none : (r : System) (n : ℕ) → length r.stations ≡ 8 → Hearing r n 0 0 r
 unfolding heard_from each
 hearing-none r n long = record { same = refl; long = long; heard = λ j h i. absurd (omega arith); waits = λ j h i. refl; others = λ j h. refl }
 
 module _ (r : System) (n p q : ℕ) (s : System) (a : Hearing r n p q s) where
-  pub hearing-tick : s.tick + 1 ≡ r.tick + 1
-  hearing-tick = ap (λ (z : System). z.tick + 1) a.same
-
   -- what hearing is given
   pub hearing-ready : Ticking r → p < n → n ≡ r.n → q < r.n → (x : Station) → x.timeouts ≡ (get_or s.stations p no_station).timeouts → x.timeout ≡ (get_or s.stations p no_station).timeout
       → (r.tick + 1 ≤ last_tick) × (entry x.timeouts (q + 1) ≤ longest last_tick) × (x.timeout ≤ longest last_tick)
@@ -180,14 +167,6 @@ module _ (r : System) (n p q : ℕ) (s : System) (a : Hearing r n p q s) where
         at : (j : ℕ) → j < p + 1 → j < n → Dec (j ≡ p) → get_or s.stations j no_station ≡ heard_from r j (q + 1)
         at j h i (yes z) = rw z (a.waits p (omega arith) hp ∙ heard_from_none r p q u)
         at j h i (no z) = a.heard j (omega arith) i
-
--- the station at place p after (b), if x is it after (a)
-abbrev pub ended_at : Bool → ℕ → ℕ → Station → Station
-ended_at clock now p x = cond (timer_ends now x) (expiring_of clock (p + 1) x) x
-
--- the system whose n stations are after (b)
-abbrev pub ended_to : ℕ → ℕ → System → System
-ended_to n now s = with_stations (firsts n (λ k. ended_at s.clock now k (get_or s.stations k no_station)) s.stations) s
 
 -- after the last sender
 module _ (r : System) (n q : ℕ) (s : System) (a : Hearing r n 0 q s) (z : q ≡ n) (size : r.n ≡ n) where

@@ -17,7 +17,7 @@ use Rattle.lists.specs.Entries.{over}
 use Rattle.lists.specs.Filter.{where_to}
 use Rattle.lists.proofs.Bools.{cond_yes, cond_no, cond_elim}
 use Rattle.lists.proofs.Entries.{length_over, over-beyond, over-front}
-use Rattle.lists.proofs.Filter.{Kept, kept-none, kept-takes, kept_leaves}
+use Rattle.lists.proofs.Filter.{kept-none, kept-takes, kept_leaves}
 use Rattle.lists.proofs.Test.{all_at, all_of}
 use Rattle.lists.proofs.Segment.{length-segment, get_d_segment, segment-set, segment-other}
 use Rattle.station.specs.declared.Station.{Station}
@@ -31,19 +31,10 @@ use Rattle.election.specs.declared.Link.{Link}
 use Rattle.election.specs.declared.Message.{Message}
 use Rattle.election.proofs.Links.{holding-at, holding-rest, holding-used}
 use Rattle.ticks.specs.Sending.{hears}
-use Rattle.ticks.proofs.Quiet.{Before, link-quiet}
-use Rattle.ticks.proofs.Turns.{staying, entry_of, stays, goes, later-where, holding-more, heard_link-turn}
+use Rattle.ticks.proofs.Quiet.{link-quiet}
+use Rattle.ticks.proofs.Turns.{stays, goes, later-where, holding-more, heard_link-turn}
 use Rattle.layout.proofs.Stores.{Wide, part, link-used, link-places, link-is, links-store, with_messages, with_used, with_stations, Clearing, used_read, places-read, messages-read}
-
--- a link in which the first i messages are gone through: those that are not due now stand at the front, `to` of them, and none of them is
--- due after now and up to a tick
-pub record Packing (now k : ℕ) (s₀ : Layout) (s : Layout) (until to i : ℕ) : Type 0 where
-  pub same : s ≡ with_messages s.messages (with_stations s.stations s₀)
-  pub size : length s.messages ≡ (64 * places)
-  pub others : (j : ℕ) → (j ≡ k → ⊥) → part s.messages j ≡ part s₀.messages j
-  pub kept : Kept i (staying now (part s₀.messages k)) (entry_of (part s₀.messages k)) (part s₀.messages k) to (part s.messages k)
-  pub front : to ≤ i
-  pub calm : (x : ℕ) → x < to → Before now (get_or (part s.messages k) x no_message).due until
+use Rattle.ticks.specs.Delivering.{Before, staying, entry_of, Packing, Heard, Beside}
 
 pub packing_none : (now k : ℕ) (s : Layout) (until : ℕ) → Wide s → Packing now k s s until 0 0
 packing_none now k s until w = record { same = refl; size = w.messages; others = λ j ne. refl; kept = kept-none _ _ _; front = omega arith; calm = λ x h. absurd (omega arith) }
@@ -209,13 +200,6 @@ module _ (s : Layout) (k u : ℕ) (wide : Wide s) (hk : k < 64) (e : u ≡ get_o
       at x h (yes i) = rw (get_or-append had (m ∷ []) no_message x i, ← holding-at had (omega (arith, had_few)) x i) (before x i)
       at x h (no i) = let z : length had ≡ x = omega arith in rw (get_or_at had m [] no_message x z, ne_eqb m.due t (λ d. omega (arith, f (omega arith)))) refl
 
--- a station that hears the first i messages of a link
-pub record Heard (s : System) (me q now : ℕ) (ms : List Message) (x₀ x : Station) (i : ℕ) : Type 0 where
-  pub up : x.up ≡ x₀.up
-  pub timeouts : x.timeouts ≡ x₀.timeouts
-  pub timeout : x.timeout ≡ x₀.timeout
-  pub is : x ≡ hears (hearing s) me q now (take i ms) x₀
-
 pub heard-first : (s : System) (me q now : ℕ) (ms : List Message) (x : Station) → Heard s me q now ms x x 0
 unfolding hears heard_link
 heard-first s me q now ms x = record { up = refl; timeouts = refl; timeout = refl; is = cond_elim (λ y. x ≡ y) x.up (λ u. refl) (λ u. refl) }
@@ -257,11 +241,6 @@ module _ (s : System) (me q now : ℕ) (ms : List Message) (x₀ x y : Station) 
 
   pub heard-down : m.due ≡ now → x.up ≡ false → y ≡ x → Heard s me q now ms x₀ y (i + 1)
   heard-down d u g = heard-next s me q now ms x₀ x y i m a h e (g ∙ sym (cond_no _ _ (ap (λ b. b && x.up) (eq-eqb m.due now d) ∙ u)))
-
--- stations that are as they were but for the one at place p
-pub record Beside (p : ℕ) (xs ys : List Station) : Type 0 where
-  pub long : length ys ≡ length xs
-  pub others : (j : ℕ) → (j ≡ p → ⊥) → get_or ys j no_station ≡ get_or xs j no_station
 
 pub beside_none : (p : ℕ) (xs : List Station) → Beside p xs xs
 beside_none p xs = record { long = refl; others = λ j ne. refl }

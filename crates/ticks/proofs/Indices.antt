@@ -41,9 +41,6 @@ module _ {q p i : ℕ} (a : Place q p i) where
 pub next_low : (i n : ℕ) → i < n → i + 1 ≤ n
 next_low i n h = omega arith
 
-pub all_done : (i n : ℕ) → i ≤ n → n ≤ i → i ≡ n
-all_done i n a b = omega arith
-
 -- one message more fits where a place is free
 pub used_more_fits : (u v : ℕ) → u ≡ v → u < places → Fits w8 (v + 1)
 used_more_fits u v e h = record { fits = omega arith }
@@ -63,9 +60,6 @@ one_more a b c e h = omega arith
 
 pub no_more : (a b c : ℕ) → a ≡ b → b ≤ c → a ≤ c + 1
 no_more a b c e h = omega arith
-
-pub long_enough : (i n m : ℕ) → i < n → m ≡ n → i < m
-long_enough i n m h e = omega arith
 
 -- the lesser of two ticks
 pub least_first : (a b r : ℕ) → r ≡ min a b → r ≤ a

@@ -10,10 +10,7 @@ use Rattle.station.specs.declared.Station.{Station}
 use Rattle.election.specs.Idle.{quiet_station, quiet_link}
 use Rattle.election.specs.Sound.{message_at}
 use Rattle.election.specs.declared.Link.{Link}
-
--- a tick that is not before now is before due if due is after now
-abbrev pub Before : ℕ → ℕ → ℕ → Type 0
-Before now due r = now < due → r < due
+use Rattle.ticks.specs.Delivering.{Before}
 
 not_due : (now due r t : ℕ) → Before now due r → now < t → t ≤ r → eqb due t ≡ false
 not_due now due r t f a b = ne_eqb due t (λ e. omega (arith, f (omega arith)))

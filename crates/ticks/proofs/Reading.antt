@@ -14,14 +14,8 @@ use Rattle.election.specs.Heads.{hearing}
 use Rattle.election.specs.System.{places, no_station, no_message}
 use Rattle.election.specs.declared.Message.{Message}
 use Rattle.election.proofs.Heads.{hearing-same}
-use Rattle.ticks.proofs.InPlace.{Packing, packing_none, packing_read, packing_keeps, packing_drops, Heard, heard-first, heard-waits, heard-due, heard-down, Beside, beside_none, beside_stores}
-use Rattle.ticks.proofs.Quiet.{Before}
-
--- the link k of s₀ in which the first i messages are gone through, `to` of which stay
-pub record Reading (q p k now : ℕ) (s₀ s : Layout) (until to i : ℕ) : Type 0 where
-  pub packing : Packing now k s₀ s until to i
-  pub heard : Heard (system_of s₀) (p + 1) (q + 1) now (part s₀.messages k) (get_or s₀.stations p no_station) (get_or s.stations p no_station) i
-  pub beside : Beside p s₀.stations s.stations
+use Rattle.ticks.proofs.InPlace.{packing_none, packing_read, packing_keeps, packing_drops, heard-first, heard-waits, heard-due, heard-down, beside_none, beside_stores}
+use Rattle.ticks.specs.Delivering.{Before, Beside, Reading}
 
 pub reading-none : (q p k now : ℕ) (s : Layout) (until : ℕ) → Wide s → Reading q p k now s s until 0 0
 reading-none q p k now s until w = record { packing = packing_none now k s until w; heard = heard-first _ _ _ _ _ _; beside = beside_none _ _ }

@@ -13,9 +13,10 @@ use Rattle.layout.specs.Layout.{system_of}
 use Rattle.layout.specs.declared.Layout.{Layout}
 use Rattle.layout.proofs.Stores.{Wide, with_messages, with_used}
 use Rattle.clock.specs.Rules.{carried}
-use Rattle.ticks.proofs.After.{Part, sends_at, sent-room, sent-held, sent-quiet, part_next}
+use Rattle.ticks.proofs.After.{sent-room, sent-held, sent-quiet, part_next}
 use Rattle.ticks.proofs.InPlace.{sent-place, sent-stored, sent-calm}
-use Rattle.ticks.proofs.Quiet.{Before}
+use Rattle.ticks.specs.Chances.{sends_at, Part}
+use Rattle.ticks.specs.Delivering.{Before}
 
 module _ (n now : ℕ) (m : System) (until : ℕ) (x : Layout) (p q : ℕ) (hp : p < n) (hq : q < n) (a : Part n now m until (system_of x) p p (8 * p + q)) (wide : Wide x)
     (d : ℕ) (ed : d ≡ get_or x.delays (8 * p + q) 0) (test : (not (eqb p q) && not (eqb d 0)) ≡ true) (sends : sends_at now m p ≡ true) (counts : List ℕ) (ec : counts ≡ (get_or m.stations p no_station).recovered) (stamp : ℕ) (ez : stamp ≡ carried (get_or m.stations p no_station))

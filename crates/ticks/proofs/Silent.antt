@@ -5,37 +5,11 @@ use mathlib.Core.Bool.{Bool, true, false, true≢false}
 use Prim.Native.Nat.{ℕ, ◌+◌, ◌*◌, ◌<◌, ◌≤◌}
 use native.Mathlib.Decide.{ℕ_discrete}
 use native.Mathlib.Omega.{arith}
-use lib.ListN.{length, get_or, set, replicate, length-set}
+use lib.ListN.{length, get_or, set, replicate, length-set, get_or-replicate}
 use lib.Seq.{get_or-set_same, get_or-set_other}
-
--- of the first c links, those of a sender that is not marked have no message
-pub record Silent (n : ℕ) (used : List ℕ) (busy : List Bool) (c : ℕ) : Type 0 where
-  pub long : length busy ≡ 8
-  pub none : (q p : ℕ) → q < n → p < n → 8 * q + p < c → get_or busy q false ≡ false → get_or used (8 * q + p) 0 ≡ 0
-
-pub silent-none : (n : ℕ) (used : List ℕ) → Silent n used (replicate 8 false) 0
-silent-none n used = record { long = refl; none = λ q p a b h e. absurd (omega arith) }
+use Rattle.ticks.specs.Delivering.{Silent, Gone}
 
 module _ (n : ℕ) (used : List ℕ) (busy : List Bool) (c : ℕ) (hn : n ≤ 8) (a : Silent n used busy c) where
-  -- a link is read
-  module _ (q p : ℕ) (hq : q < n) (hp : p < n) (z : c ≡ 8 * q + p) where
-    pub silent-marks : (busy' : List Bool) → busy' ≡ set busy q true → Silent n used busy' (8 * q + (p + 1))
-    silent-marks busy' g = rw g (record { long = length-set busy q true ∙ a.long; none = λ j k hj hk h. at j k hj hk h (ℕ_discrete j q) })
-      where
-        at : (j k : ℕ) → j < n → k < n → 8 * j + k < 8 * q + (p + 1) → Dec (j ≡ q) → get_or (set busy q true) j false ≡ false → get_or used (8 * j + k) 0 ≡ 0
-        at j k hj hk h (yes e) f = absurd (true≢false (sym (get_or-set_same busy q true false (omega (arith, a.long))) ∙ ap (λ j. get_or (set busy q true) j false) (sym e) ∙ f))
-        at j k hj hk h (no e) f = a.none j k hj hk (omega arith) (sym (get_or-set_other busy q j true false e) ∙ f)
-
-    pub silent-leaves : (busy' : List Bool) → busy' ≡ busy → get_or used (8 * q + p) 0 ≡ 0 → Silent n used busy' (8 * q + (p + 1))
-    silent-leaves busy' g y = rw g (record { long = a.long; none = λ j k hj hk h. at j k hj hk h (ℕ_discrete (8 * j + k) (8 * q + p)) })
-      where
-        at : (j k : ℕ) → j < n → k < n → 8 * j + k < 8 * q + (p + 1) → Dec (8 * j + k ≡ 8 * q + p) → get_or busy j false ≡ false → get_or used (8 * j + k) 0 ≡ 0
-        at j k hj hk h (yes e) f = rw e y
-        at j k hj hk h (no e) f = a.none j k hj hk (omega arith) f
-
-  pub silent-row : (q : ℕ) → c ≡ 8 * q + n → Silent n used busy (8 * (q + 1))
-  silent-row q z = record { long = a.long; none = λ j k hj hk h f. a.none j k hj hk (omega arith) f }
-
   -- a count of a marked sender is stored
   pub silent-stores : (q p v : ℕ) → p < 8 → get_or busy q false ≡ true → Silent n (set used (8 * q + p) v) busy c
   silent-stores q p v hp b = record { long = a.long; none = λ j k hj hk h f. at j k hj hk h f (ℕ_discrete j q) }
@@ -55,11 +29,6 @@ module _ (n : ℕ) (used : List ℕ) (busy : List Bool) (c : ℕ) (hn : n ≤ 8)
   pub silent-sends : (q : ℕ) → q < 8 → Silent n used (set busy q true) c
   silent-sends q hq = silent-sets q true hq (λ e. absurd (true≢false e))
 
--- the messages of a sender that stay: none so far, or one link more
-module _ (used : List ℕ) (q p : ℕ) (more : Bool) where
-  abbrev pub Gone : Type 0
-  Gone = more ≡ false → (j : ℕ) → j < p → get_or used (8 * q + j) 0 ≡ 0
-
 pub gone-more : (used : List ℕ) (q p : ℕ) (more more' : Bool) → Gone used q p more → (more' ≡ false → more ≡ false) → (more' ≡ false → get_or used (8 * q + p) 0 ≡ 0) → Gone used q (p + 1) more'
 gone-more used q p more more' a f y e j h = at (ℕ_discrete j p)
   where
@@ -73,3 +42,10 @@ gone-stores used q p v more more' long hk a f e j h = at (ℕ_discrete j p)
     at : Dec (j ≡ p) → get_or (set used (8 * q + p) v) (8 * q + j) 0 ≡ 0
     at (yes i) = rw i (get_or-set_same used (8 * q + p) v 0 (omega arith) ∙ (f e).1)
     at (no i) = get_or-set_other used (8 * q + p) (8 * q + j) v 0 (λ z. omega arith) ∙ a (f e).0 j (omega arith)
+
+-- where all are marked
+pub silent_all : (n : ℕ) (used : List ℕ) (c : ℕ) → n ≤ 8 → Silent n used (replicate 8 true) c
+silent_all n used c hn = record { long = refl; none = λ q p a b h e. absurd (true≢false (at q (omega arith) ∙ e)) }
+  where
+    at : (q : ℕ) → q < 8 → true ≡ get_or (replicate 8 true) q false
+    at q h = sym (get_or-replicate 8 q true false h)

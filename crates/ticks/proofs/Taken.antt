@@ -20,25 +20,13 @@ use Rattle.election.specs.declared.System.{System}
 use Rattle.election.proofs.Heads.{hearing-same}
 use Rattle.ticks.specs.Sending.{Ticking, hears}
 use Rattle.ticks.proofs.After.{no_sender, no_receiver, linked, self}
-use Rattle.ticks.proofs.Hearing.{Hearing, hearing-turn, hearing-skips}
+use Rattle.ticks.proofs.Hearing.{hearing-turn, hearing-skips}
 use Rattle.election.specs.System as system
-use Rattle.ticks.proofs.InPlace.{Packing, Heard, Beside, kept-stored, kept-calm}
+use Rattle.ticks.proofs.InPlace.{kept-stored, kept-calm}
 use Rattle.ticks.proofs.Ready.{is, used_at, unused-self}
+use Rattle.ticks.specs.Delivering.{Packing, Heard, Beside, Hearing, link_kept, Taken}
 
 -- r is the system of n stations before the tick, and now is the tick.
-
--- the link at place k without what is due now
-unfoldable pub link_kept : ℕ → ℕ → System → ℕ → Link
-link_kept n now r k = cond (is_link n (from k) (to k)) (holding (later now (messages (get_or r.links k no_link)))) (get_or r.links k no_link)
-
--- the first c links are so, and none of their messages is due after now and up to a tick
-pub record Taken (n now : ℕ) (r : System) (until : ℕ) (ls : List Link) (c : ℕ) : Type 0 where
-  pub ticking : Ticking r
-  pub held : Held r
-  pub size : r.n ≡ n
-  pub past : (k : ℕ) → k < 64 → k < c → get_or ls k no_link ≡ link_kept n now r k
-  pub rest : (k : ℕ) → k < 64 → c ≤ k → get_or ls k no_link ≡ get_or r.links k no_link
-  pub calm : (t k : ℕ) → now < t → t ≤ until → k < 64 → k < c → quiet_link t (link_kept n now r k) ≡ true
 
 pub taken_none : (n now : ℕ) (r : System) (until : ℕ) → Ticking r → Held r → r.n ≡ n → Taken n now r until r.links 0
 taken_none n now r until ticking held size =
@@ -175,9 +163,6 @@ module _ (n now p q : ℕ) (hn : n ≤ 8) (hp : p < n) (hq : q < n) (x s₁ s₂
     (wide : Wide x) (few : u ≤ places) (e : u ≡ get_or x.used (8 * q + p) 0) (y : Layout) (f : y ≡ with_used (set s₂.used (8 * q + p) to) s₂) where
   used_is : s₂.used ≡ x.used
   used_is = ap (λ (z : Layout). z.used) clear.same ∙ ap (λ (z : Layout). z.used) pack.same
-
-  pub link-used_is : y.used ≡ set x.used (8 * q + p) to
-  link-used_is = ap (λ (z : Layout). z.used) f ∙ ap (λ us. set us (8 * q + p) to) used_is
 
   stations-are : y.stations ≡ s₁.stations
   stations-are = ap (λ (z : Layout). z.stations) f ∙ ap (λ (z : Layout). z.stations) clear.same

@@ -17,6 +17,7 @@ use Rattle.station.specs.declared.Station.{Station}
 use Rattle.election.specs.System.{no_message, unused, holding, places}
 use Rattle.election.specs.Tick.{heard_link, later}
 use Rattle.election.specs.declared.Message.{Message}
+use Rattle.ticks.specs.Delivering.{staying, entry_of}
 
 -- one message more is heard
 heard_link-snoc : (hear : Hearing) (me q now : ℕ) (ms : List Message) (m : Message) (x : Station) → heard_link hear me q now (ms ++ (m ∷ [])) x ≡ cond (eqb m.due now) (hear me q m now (heard_link hear me q now ms x)) (heard_link hear me q now ms x)
@@ -42,13 +43,6 @@ later-snoc now (a ∷ ms) m = go (eqb a.due now) (later-snoc now ms m)
     go : (b : Bool) → later now (ms ++ (m ∷ [])) ≡ later now ms ++ cond (eqb m.due now) [] (m ∷ []) → cond b (later now (ms ++ (m ∷ []))) (a ∷ later now (ms ++ (m ∷ []))) ≡ cond b (later now ms) (a ∷ later now ms) ++ cond (eqb m.due now) [] (m ∷ [])
     go true e = e
     go false e = ap (λ l. a ∷ l) e
-
--- what is not due now are the entries at which a test holds
-abbrev pub staying : ℕ → List Message → ℕ → Bool
-staying now ms i = not (eqb (get_or ms i no_message).due now)
-
-abbrev pub entry_of : List Message → ℕ → Message
-entry_of ms i = get_or ms i no_message
 
 pub later-where : (now : ℕ) (ms : List Message) (k : ℕ) → k ≤ length ms → later now (take k ms) ≡ where_to k (staying now ms) (entry_of ms)
 unfolding later where_to

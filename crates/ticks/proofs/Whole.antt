@@ -23,10 +23,12 @@ use Rattle.election.proofs.Places.{tick-n, messages-held}
 use Rattle.election.proofs.Soundness.{link-of, place_of}
 use Rattle.election.proofs.TickSound.{after-few}
 use Rattle.ticks.specs.Sending.{Ticking, sent_over, sends_now}
-use Rattle.ticks.proofs.After.{no_sender, unlinked, linked, sends_at, station_after, sent_after, new_link, link_after, sent_to, Mid, Part, part_none}
-use Rattle.ticks.proofs.Hearing.{settled_to, Hearing, ended_to, settled-all}
+use Rattle.ticks.proofs.After.{no_sender, unlinked, linked, part_none}
+use Rattle.ticks.proofs.Hearing.{settled_to, settled-all}
 use Rattle.ticks.proofs.Ready.{is, sent-at, chance-safe}
-use Rattle.ticks.proofs.Taken.{link_kept, kept-yes, kept-no, Taken, taken-links, taken-calm}
+use Rattle.ticks.proofs.Taken.{kept-yes, kept-no, taken-links, taken-calm}
+use Rattle.ticks.specs.Chances.{sends_at, station_after, sent_after, new_link, link_after, sent_to, Mid, Part, ended_to}
+use Rattle.ticks.specs.Delivering.{Hearing, link_kept, Taken}
 
 -- the system after (a) and (b), its links without what was due now
 module _ (s : System) (ticking : Ticking s) (held : Held s) (ls : List Link) (long : length ls ≡ 64) (kept : (k : ℕ) → k < 64 → get_or ls k no_link ≡ link_kept s.n (s.tick + 1) s k) where

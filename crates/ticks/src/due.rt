@@ -9,19 +9,13 @@ pub(crate) fn short_of(now: u32, due: u32, end: u32) -> u32
     requires { now ≤ end }
     ensures { (now ≤ result) × (result ≤ end) × (now < due → result < due) }
 {
-    if due <= now {
-        return end;
-    }
-    if end < due {
-        return end;
-    }
-    due - 1
+    if due <= now { end } else { end.min(due - 1) }
 }
 
 // A tick up to end, with nothing of the station due after now and up to it.
-pub(crate) fn quiet_station(now: u32, x: Station, end: u32) -> u32
+pub(crate) fn quiet_station(now: u32, x: &Station, end: u32) -> u32
     requires { now ≤ end }
-    ensures { (now ≤ result) × (result ≤ end) × ((t : ℕ) → now < t → t ≤ result → quiet_station t x ≡ true) }
+    ensures { (now ≤ result) × (result ≤ end) × ((t : ℕ) → now < t → t ≤ result → quiet_station t x.now ≡ true) }
 {
     short_of(now, x.slot, short_of(now, x.timer, end))
 }

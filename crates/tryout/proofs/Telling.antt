@@ -1,5 +1,6 @@
 -- What a try-out tells, from what the operations answered.
 use mathlib.Core.Path.{◌≡◌, refl, sym, ap, ◌∙◌}
+use Rattle.std.specs.Prelude as std
 use mathlib.Core.List.{List, [], ◌++◌}
 use mathlib.Core.Bool.{Bool, true, false, cond}
 use Prim.Native.Nat.{ℕ, ◌+◌, ◌<◌, ◌≤◌}
@@ -16,23 +17,24 @@ use Rattle.election.specs.Schedule.{End, most_bytes, schedule, offset_of}
 use Rattle.election.specs.Schedule.{refusal_of as refusalIn}
 use Rattle.election.specs.Schedule.{said as saidSchedule}
 use Rattle.election.specs.Sound.{sound}
-use Rattle.election.specs.declared.Ended.TheVariants as Ends
 use Rattle.election.specs.declared.Refusal.{Refusal}
 use Rattle.election.specs.declared.Scheduled.{Scheduled}
+use Rattle.election.specs.declared.Stopped.{Stopped}
 use Rattle.election.specs.declared.System.{System}
-use Rattle.election.proofs.Followed.{rules_refusal, accepted-schedule}
-use Rattle.decision.specs.Decided.{decided, meaning}
-use Rattle.decision.specs.declared.Decision.{Decision}
-use Rattle.decision.proofs.Decisions.{numbered}
-use Rattle.dryrun.specs.DryRun.{Tried, tried, said, refusal_of}
-use Rattle.dryrun.specs.declared.Outcome.{Outcome}
+use Rattle.election.proofs.Followed.{accepted-schedule}
+use Rattle.decision.specs.Decided.{Turned, Taken, command_of, decided}
+use Rattle.decision.specs.declared.Command as declared
+use Rattle.decision.proofs.Decisions.{numbered, refused-number, taken-command, accepted}
+use Rattle.dryrun.specs.DryRun.{Tried, tried}
+use Rattle.dryrun.specs.DryRun.{said as saidTried}
+use Rattle.dryrun.specs.declared.Tried as dry
 use Rattle.dryrun.proofs.Showing.{with_room, written-inside}
-use Rattle.words.specs.Doings.{doing, doing_of}
-use Rattle.words.proofs.Doings.{worded}
+use Rattle.words.specs.Doings.{doing_of}
+use Rattle.words.specs.Reasons.{refused}
 use Rattle.calls.proofs.Calls.{enough}
 use Rattle.tryout.specs.Moves.{Enough}
 use Rattle.tryout.specs.Pieces.{shown_or, after_shown}
-use Rattle.tryout.specs.Told.{no_table, table, after, first, told, turned_down}
+use Rattle.tryout.specs.Told.{no_table, table, after, first, would, answered, told, turned_down}
 use Rattle.tryout.specs.Told.{said as said_of}
 
 -- a listing has at least one byte
@@ -49,11 +51,8 @@ shown-table x shown e = rw e (go x.ready)
     go true = rw (ne_eqb (length (listing x)) 0 (omega (arith, listing-some x)))
     go false = refl
 
--- a try-out with room for every listing: the command's own refusal, and the listing after it
-module _ (s : System) (bytes old new : List ℕ) (r : Outcome) (ok : sound s ≡ true) (room : longest_listing ≤ length old) (e : said r new ≡ tried s bytes old) where
-  pub own-refusal : refusal_of r.attempt ≡ (command s bytes).refusal
-  own-refusal = ap (λ (t : Tried). t.refusal) e ∙ (with_room s bytes old ok room).0
-
+-- a try-out with room for every listing: the listing after the command
+module _ (s : System) (bytes old new : List ℕ) (r : dry.Tried) (ok : sound s ≡ true) (room : longest_listing ≤ length old) (e : saidTried r s new ≡ tried s bytes old) where
   pub shown-inside : r.written ≤ length new
   shown-inside = omega (arith, ap (λ (t : Tried). t.written) e, ap (λ (t : Tried). length t.buffer) e, written-inside s bytes old)
 
@@ -61,9 +60,15 @@ module _ (s : System) (bytes old new : List ℕ) (r : Outcome) (ok : sound s ≡
   unfolding after_shown after
   shown-after = ap (λ l. text "after:\n" ++ l) (shown-table (command s bytes).system (take r.written new) (ap (λ (t : Tried). take t.written t.buffer) e ∙ (with_room s bytes old ok room).1))
 
--- what is decided of an accepted command has the words of the command
-pub worded_as : (s : System) (bytes : List ℕ) (d : Decision) → sound s ≡ true → (command s bytes).refusal ≡ 0 → meaning s d ≡ decided (ruling s bytes) (decode bytes) → doing_of d ≡ doing (decode bytes)
-worded_as s bytes d ok t m = worded s d (decode bytes) (m ∙ rw (sym (rules_refusal s bytes ok) ∙ t) refl)
+-- what is decided of a command, in words
+module _ (s : System) (bytes : List ℕ) (ok : sound s ≡ true) where
+  pub answered_taken : (c : declared.Command) → Taken (command_of c) ≡ decided (ruling s bytes) (decode bytes) → text "would " ++ doing_of c ≡ answered (command s bytes).refusal bytes
+  unfolding answered would
+  answered_taken c m = rw (accepted s bytes ok (command_of c) m, (taken-command s bytes ok (command_of c) m).0) refl
+
+  pub answered_turned : (why : Refusal) → Turned (number_of why) ≡ decided (ruling s bytes) (decode bytes) → refused (number_of why) ≡ answered (command s bytes).refusal bytes
+  unfolding answered
+  answered_turned why m = rw (refused-number s bytes ok why m, ne_eqb (number_of why) 0 (numbered why)) refl
 
 -- the bytes of the command, taken by their number
 pub first_taken : (bytes : List ℕ) (size : ℕ) → size ≡ length (first bytes) → take size bytes ≡ first bytes
@@ -89,7 +94,7 @@ module _ (given bytes : List ℕ) (r : Scheduled) (e : saidSchedule r ≡ schedu
   same-system : (schedule given).system ≡ r.system
   same-system = ap (λ (x : End). x.system) (sym e)
 
-  module _ (size : ℕ) (w : r.ended ≡ Ends.Whole size) where
+  module _ (size : ℕ) (w : r.ended ≡ std.Ok size) where
     none-refused : (schedule given).refusal ≡ 0
     none-refused = same-refusal ∙ ap refusalIn w
 
@@ -103,11 +108,11 @@ module _ (given bytes : List ℕ) (r : Scheduled) (e : saidSchedule r ≡ schedu
     unfolding said_of
     accepted-said = rw (← accepted-so, same-system)
 
-  module _ (at : ℕ) (why : Refusal) (w : r.ended ≡ Ends.Stopped at why) where
+  module _ (stopped : Stopped) (w : r.ended ≡ std.Err stopped) where
     pub refused-so : false ≡ eqb (schedule given).refusal 0
-    refused-so = sym (ne_eqb _ _ (λ z. numbered why (sym (ap refusalIn w) ∙ sym same-refusal ∙ z)))
+    refused-so = sym (ne_eqb _ _ (λ z. numbered stopped.refusal (sym (ap refusalIn w) ∙ sym same-refusal ∙ z)))
 
-    pub refused-said : turned_down (number_of why) at ≡ said_of given bytes
+    pub refused-said : turned_down (number_of stopped.refusal) stopped.at ≡ said_of given bytes
     unfolding said_of
     refused-said = rw (← refused-so, same-refusal, same-offset, w)
 

@@ -1,10 +1,10 @@
 -- What the arguments ask for: one command, in hex.
-use Rattle.std.specs.Prelude.{List, Bool, cond, ◌&&◌, ℕ, ◌+◌, ltb, length, get_or, take}
+use Rattle.std.specs.Prelude.{List, Bool, cond, ◌&&◌, ℕ, ◌+◌, ltb, length, get_or, take, Result, Ok, Err}
 use Rattle.fit.specs.Fit.{within}
 use Rattle.text.specs.Hex.{Spelled, spelled}
 use Rattle.election.specs.Commands.{decode, operands, last_command}
-use Rattle.tryout.specs.declared.command.Asked.{Asked}
-use Rattle.tryout.specs.declared.command.Asked.TheVariants as code
+use Rattle.tryout.specs.declared.command.WrongArguments.{WrongArguments}
+use Rattle.tryout.specs.declared.command.WrongArguments.TheVariants as wrong
 
 -- the bytes of a command; or there are none, or bytes are left over behind it, or it is no hex
 pub data Asking : Type 0 where
@@ -24,15 +24,8 @@ asking line =
     cond s.hex (cond (ltb 0 (length s.bytes)) (cond (is_left_over s.bytes) LeftOver (TryOut s.bytes)) NoBytes) NoHex
 
 -- what the code answered, with the bytes at the front of the buffer
-abbrev pub meant : Asked → List ℕ → Asking
-meant (code.Command size) buffer = TryOut (take size buffer)
-meant code.NoBytes buffer = NoBytes
-meant code.LeftOver buffer = LeftOver
-meant code.NoHex buffer = NoHex
-
--- how many bytes there are of a command
-abbrev pub size_of : Asked → ℕ
-size_of (code.Command size) = size
-size_of code.NoBytes = 0
-size_of code.LeftOver = 0
-size_of code.NoHex = 0
+abbrev pub meant : Result ℕ WrongArguments → List ℕ → Asking
+meant (Ok size) buffer = TryOut (take size buffer)
+meant (Err wrong.NoBytes) buffer = NoBytes
+meant (Err wrong.LeftOver) buffer = LeftOver
+meant (Err wrong.NoHex) buffer = NoHex

@@ -1,14 +1,13 @@
 // The command, from the program's arguments.
-ghost use Rattle.std.specs.Prelude.{◌≡◌, ◌≤◌, length};
-ghost use Rattle.tryout.specs.Asked.{is_left_over, asking, meant, size_of};
+ghost use Rattle.std.specs.Prelude.{◌≡◌, ◌≤◌, length, IfOk};
+ghost use Rattle.tryout.specs.Asked.{is_left_over, asking, meant};
 
 use decision::widths::width;
 use text::rules::hex::read_hex;
 
-// What the arguments ask for: a command, of so many bytes; or there are no bytes, or some are left over behind the command, or it is no hex.
-#[derive(Clone, Copy)]
-pub enum Asked {
-    Command(usize),
+// What is wrong with the arguments: there are no bytes, or some are left over behind the command, or it is no hex.
+#[derive(Clone, Copy, Debug, PartialEq, Eq)]
+pub enum WrongArguments {
     NoBytes,
     LeftOver,
     NoHex,
@@ -18,32 +17,24 @@ pub enum Asked {
 fn is_left_over(bytes: &[u8]) -> bool
     ensures { result ≡ is_left_over bytes.now }
 {
-    if bytes.len() == 0 {
-        return false;
-    }
-    let b = bytes[0];
-    match b {
-        1..=9 => 1 + width(b) < bytes.len(),
+    match bytes {
+        [b @ 1..=9, ..] => 1 + width(*b) < bytes.len(),
         _ => false,
     }
 }
 
-// Reads what a line of arguments asks for; the command's bytes come to the front of the buffer.
-pub fn read_command(line: &[u8], buffer: &mut [u8]) -> Asked
+// Reads what a line of arguments asks for: the command's bytes come to the front of the buffer, and it answers how many they are.
+pub fn read_command(line: &[u8], buffer: &mut [u8]) -> Result<usize, WrongArguments>
     requires { length line.now ≤ length buffer.old }
     ensures buffer_after { meant result buffer.new ≡ asking line.now }
-    ensures result_in_bounds { size_of result ≤ length buffer.new }
+    ensures result_in_bounds { IfOk result (λ size. size ≤ length buffer.new) }
 {
-    let spelling = read_hex(line, buffer);
-    let size = spelling.size;
-    if !spelling.hex {
-        return Asked::NoHex;
-    }
+    let size = read_hex(line, buffer).ok_or(WrongArguments::NoHex)?;
     if size == 0 {
-        return Asked::NoBytes;
+        return Err(WrongArguments::NoBytes);
     }
     if is_left_over(&buffer[..size]) {
-        return Asked::LeftOver;
+        return Err(WrongArguments::LeftOver);
     }
-    Asked::Command(size)
+    Ok(size)
 }

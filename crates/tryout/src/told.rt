@@ -1,72 +1,74 @@
 // What is said for a schedule and a command, written into a buffer that has room.
-ghost use Rattle.std.specs.Prelude.{◌≡◌, true, ◌≤◌, eqb, length};
+ghost use Rattle.std.specs.Prelude.{◌≡◌, true, ◌≤◌, length};
+ghost use Rattle.calls.specs.Streams.{descriptor_of};
 ghost use Rattle.text.specs.Wrote.{Wrote};
 ghost use Rattle.election.specs.Commands.{command, number_of};
 ghost use Rattle.election.specs.Listing.{longest_listing};
-ghost use Rattle.election.specs.Schedule.{schedule};
 ghost use Rattle.election.specs.Sound.{sound};
-ghost use Rattle.dryrun.specs.DryRun.{refusal_of};
-ghost use Rattle.tryout.specs.Told.{no_table, table, before, first, heading, would, answered, command_line, told, because, turned_down, said, longest_said};
+ghost use Rattle.tryout.specs.Told.{table, before, first, heading, answered, command_line, told, turned_down, said, longest_said, descriptor};
 ghost use Rattle.tryout.specs.Pieces.{shown_or, after_shown};
 
+use calls::streams::Stream;
 use decision::widths::width;
-use decision::{decide, named};
-use dryrun::{Attempt, dry_run};
-use election::{Ended, Refusal, System};
-use listing::rules::ending::number_of;
-use listing::rules::write_listing;
+use decision::{Seen, decide};
+use dryrun::dry_run;
+use election::{Stopped, System};
+use listing::shown::{Listing, Shown};
+use simulator::schedule;
 use text::rules::hex::put_hex;
-use text::rules::{put, put_pair};
+use text::rules::{Decimal, Either, Text, put};
 use words::rules::doings::put_doing;
-use words::rules::reasons::{put_reason, put_refused};
+use words::rules::reasons::{put_refused, reason};
 
-// Writes that there is no listing.
-fn put_no_table(buffer: &mut [u8]) -> usize
-    requires { length no_table ≤ length buffer.old }
-    ensures { Wrote no_table buffer.old result buffer.new }
-{
-    put(b"nothing is set up\n", buffer)
-}
+type Table<'a> = Either<Listing<'a>, &'static str>;
 
-// Writes the listing of a system, or that there is none.
-fn put_table(s: System, buffer: &mut [u8]) -> usize
-    requires { (s.ready ≡ true → s.n ≤ 8) × (length (table s) ≤ length buffer.old) }
-    ensures { Wrote (table s) buffer.old result buffer.new }
+// The listing of a system, or that there is none.
+#[tactic(auto, unfolding(crate::specs::Told::table, text::specs::Quoted::text))]
+fn table<'a>(s: &'a System) -> Table<'a>
+    requires { s.now.ready ≡ true → s.now.n ≤ 8 }
+    ensures { ⟦<Table<'a> as Text>⟧.bytes result ≡ table s.now }
 {
     if !s.ready {
-        return put_no_table(buffer);
+        return Either::Second("nothing is set up\n");
     }
-    let stations = s.stations;
-    let sent = s.sent;
-    write_listing(s.clock, s.n, s.tick, stations, sent, buffer)
+    let shown = Shown {
+        clock: s.clock,
+        n: s.n,
+        tick: s.tick,
+        stations: &s.stations,
+        sent: &s.sent,
+    };
+    Either::First(shown.text())
 }
 
 // Writes the listing before the command.
-fn put_before(s: System, buffer: &mut [u8]) -> usize
-    requires { (s.ready ≡ true → s.n ≤ 8) × (length (before s) ≤ length buffer.old) }
-    ensures { Wrote (before s) buffer.old result buffer.new }
+#[tactic(auto, unfolding(crate::specs::Told::before, text::specs::Quoted::text))]
+fn put_before(s: &System, buffer: &mut [u8]) -> usize
+    requires { (s.now.ready ≡ true → s.now.n ≤ 8) × (length (before s.now) ≤ length buffer.old) }
+    ensures { Wrote (before s.now) buffer.old result buffer.new }
 {
-    let at = put(b"before:\n", buffer);
-    at + put_table(s, &mut buffer[at..])
+    ("before:\n", table(s)).put(buffer)
 }
 
 // Writes a listing that was shown, or that there is none.
+#[tactic(auto, unfolding(text::specs::Quoted::text))]
 fn put_shown(shown: &[u8], buffer: &mut [u8]) -> usize
     requires { length (shown_or shown.now) ≤ length buffer.old }
     ensures { Wrote (shown_or shown.now) buffer.old result buffer.new }
 {
-    if shown.len() == 0 {
-        return put_no_table(buffer);
+    if shown.is_empty() {
+        return "nothing is set up\n".put(buffer);
     }
     put(shown, buffer)
 }
 
 // Writes the listing after the command, as it was shown.
+#[tactic(auto, unfolding(crate::specs::Pieces::after_shown, text::specs::Quoted::text))]
 fn put_after(shown: &[u8], buffer: &mut [u8]) -> usize
     requires { length (after_shown shown.now) ≤ length buffer.old }
     ensures { Wrote (after_shown shown.now) buffer.old result buffer.new }
 {
-    let at = put(b"after:\n", buffer);
+    let at = "after:\n".put(buffer);
     at + put_shown(shown, &mut buffer[at..])
 }
 
@@ -74,119 +76,99 @@ fn put_after(shown: &[u8], buffer: &mut [u8]) -> usize
 fn first_size(bytes: &[u8]) -> usize
     ensures { result ≡ length (first bytes.now) }
 {
-    let most = bytes.len();
-    if most == 0 {
-        return 0;
+    match bytes {
+        [] => 0,
+        [b, ..] => (1 + width(*b)).min(bytes.len()),
     }
-    let size = 1 + width(bytes[0]);
-    if size < most { size } else { most }
 }
 
 // Writes the bytes of the command.
+#[tactic(auto, using(crate::proofs::Telling::first_taken), unfolding(crate::specs::Told::heading, text::specs::Quoted::text))]
 fn put_heading(bytes: &[u8], buffer: &mut [u8]) -> usize
     requires { length (heading bytes.now) ≤ length buffer.old }
     ensures { Wrote (heading bytes.now) buffer.old result buffer.new }
 {
     let size = first_size(bytes);
-    let a = put(b"command", buffer);
+    let a = "command".put(buffer);
     let b = a + put_hex(&bytes[..size], &mut buffer[a..]);
-    b + put(b": ", &mut buffer[b..])
-}
-
-// Writes what an accepted command would do.
-fn put_would(s: System, bytes: &[u8], buffer: &mut [u8]) -> usize
-    requires { (sound s ≡ true) × ((command s bytes.now).refusal ≡ 0) × (length (would bytes.now) ≤ length buffer.old) }
-    ensures { Wrote (would bytes.now) buffer.old result buffer.new }
-{
-    let k = named(bytes);
-    let d = decide(s.ready, s.clock, s.n, s.tick, s.stations[k], bytes);
-    let at = put(b"would ", buffer);
-    at + put_doing(d, &mut buffer[at..])
+    b + ": ".put(&mut buffer[b..])
 }
 
 // Writes what the command would do, or its refusal and why.
-fn put_answer(s: System, bytes: &[u8], attempt: Attempt, buffer: &mut [u8]) -> usize
-    requires { (sound s ≡ true) × (refusal_of attempt ≡ (command s bytes.now).refusal) × (length (answered (refusal_of attempt) bytes.now) ≤ length buffer.old) }
-    ensures { Wrote (answered (refusal_of attempt) bytes.now) buffer.old result buffer.new }
+fn put_answer(s: &System, bytes: &[u8], buffer: &mut [u8]) -> usize
+    requires { (sound s.now ≡ true) × (length (answered (command s.now bytes.now).refusal bytes.now) ≤ length buffer.old) }
+    ensures { Wrote (answered (command s.now bytes.now).refusal bytes.now) buffer.old result buffer.new }
 {
-    match attempt {
-        Attempt::Accepted => put_would(s, bytes, buffer),
-        Attempt::Refused(why) => put_refused(why, buffer),
+    match decide(&Seen::from(s), bytes) {
+        Ok(command) => {
+            let at = "would ".put(buffer);
+            at + put_doing(command, &mut buffer[at..])
+        }
+        Err(why) => put_refused(why, buffer),
     }
 }
 
 // Writes the line of the command.
-fn put_command(s: System, bytes: &[u8], attempt: Attempt, buffer: &mut [u8]) -> usize
-    requires { (sound s ≡ true) × (refusal_of attempt ≡ (command s bytes.now).refusal) × (length (command_line (refusal_of attempt) bytes.now) ≤ length buffer.old) }
-    ensures { Wrote (command_line (refusal_of attempt) bytes.now) buffer.old result buffer.new }
+#[tactic(auto, unfolding(crate::specs::Told::command_line, text::specs::Quoted::text))]
+fn put_command(s: &System, bytes: &[u8], buffer: &mut [u8]) -> usize
+    requires { (sound s.now ≡ true) × (length (command_line (command s.now bytes.now).refusal bytes.now) ≤ length buffer.old) }
+    ensures { Wrote (command_line (command s.now bytes.now).refusal bytes.now) buffer.old result buffer.new }
 {
     let a = put_heading(bytes, buffer);
-    let b = a + put_answer(s, bytes, attempt, &mut buffer[a..]);
-    b + put(b"\n", &mut buffer[b..])
+    let b = a + put_answer(s, bytes, &mut buffer[a..]);
+    b + "\n".put(&mut buffer[b..])
 }
 
 // Tries a command out, and writes what that tells.
-fn put_told(s: System, bytes: &[u8], space: &mut [u8], buffer: &mut [u8]) -> usize
-    requires { (sound s ≡ true) × (longest_listing ≤ length space.old) × (length (told s bytes.now) ≤ length buffer.old) }
-    ensures { Wrote (told s bytes.now) buffer.old result buffer.new }
+#[tactic(auto, unfolding(crate::specs::Told::told))]
+fn put_told(s: &System, bytes: &[u8], space: &mut [u8], buffer: &mut [u8]) -> usize
+    requires { (sound s.now ≡ true) × (longest_listing ≤ length space.old) × (length (told s.now bytes.now) ≤ length buffer.old) }
+    ensures { Wrote (told s.now bytes.now) buffer.old result buffer.new }
 {
-    let r = dry_run(s, bytes, space);
-    let attempt = r.attempt;
-    let size = r.written;
+    let tried = dry_run(s, bytes, space);
+    let size = tried.written;
     let a = put_before(s, buffer);
-    let b = a + put_command(s, bytes, attempt, &mut buffer[a..]);
+    let b = a + put_command(s, bytes, &mut buffer[a..]);
     b + put_after(&space[..size], &mut buffer[b..])
 }
 
-// Writes why, to the end of the line.
-fn put_because(why: Refusal, buffer: &mut [u8]) -> usize
-    requires { length (because (number_of why)) ≤ length buffer.old }
-    ensures { Wrote (because (number_of why)) buffer.old result buffer.new }
-{
-    let a = put(b", ", buffer);
-    let b = a + put_reason(why, &mut buffer[a..]);
-    b + put(b"\n", &mut buffer[b..])
-}
-
 // Writes that a schedule is refused, where and why.
-fn put_turned_down(why: Refusal, offset: usize, buffer: &mut [u8]) -> usize
-    requires { length (turned_down (number_of why) offset) ≤ length buffer.old }
-    ensures { Wrote (turned_down (number_of why) offset) buffer.old result buffer.new }
+#[tactic(auto, unfolding(crate::specs::Told::turned_down, crate::specs::Told::because, text::specs::Quoted::text))]
+fn put_turned_down(stopped: Stopped, buffer: &mut [u8]) -> usize
+    requires { length (turned_down (number_of stopped.refusal) stopped.at) ≤ length buffer.old }
+    ensures { Wrote (turned_down (number_of stopped.refusal) stopped.at) buffer.old result buffer.new }
 {
-    let at = put_pair(
-        b"tryout: the schedule is refused: ",
-        number_of(why) as u64,
-        b" at ",
-        offset as u64,
-        buffer,
+    let why = stopped.refusal;
+    let refused = (
+        "tryout: the schedule is refused: ",
+        Decimal(u64::from(why.number())),
     );
-    at + put_because(why, &mut buffer[at..])
+    let place = (" at ", Decimal(stopped.at as u64));
+    ((refused, place), (", ", reason(why), "\n")).put(buffer)
 }
 
-// What was written: whether the schedule is accepted, and how long it is.
-#[derive(Clone, Copy)]
+// What was written: where it goes, standard output for an accepted schedule and standard error for a refused one, and how long it is.
+#[derive(Clone, Copy, Debug, PartialEq, Eq)]
 pub struct Said {
-    pub accepted: bool,
+    pub stream: Stream,
     pub size: usize,
 }
 
 // Runs a schedule, tries a command out on the system that it leaves, and writes all that is said of it.
 pub fn put_said(given: &[u8], bytes: &[u8], space: &mut [u8], buffer: &mut [u8]) -> Said
     requires { (longest_listing ≤ length space.old) × (longest_said ≤ length buffer.old) }
-    ensures accepted_value { result.accepted ≡ eqb (schedule given.now).refusal 0 }
+    ensures stream_value { descriptor_of result.stream ≡ descriptor given.now }
     ensures wrote { Wrote (said given.now bytes.now) buffer.old result.size buffer.new }
 {
-    let r = simulator::schedule(given);
-    let ended = r.ended;
-    let s = r.system;
-    match ended {
-        Ended::Whole(_) => Said {
-            accepted: true,
-            size: put_told(s, bytes, space, buffer),
+    let r = schedule(given);
+    match r.ended {
+        Ok(_) => Said {
+            stream: Stream::Output,
+            size: put_told(&r.system, bytes, space, buffer),
         },
-        Ended::Stopped { at, refusal } => Said {
-            accepted: false,
-            size: put_turned_down(refusal, at, buffer),
+        Err(stopped) => Said {
+            stream: Stream::Error,
+            size: put_turned_down(stopped, buffer),
         },
     }
 }

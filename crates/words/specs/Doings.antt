@@ -1,10 +1,10 @@
 -- What an accepted command does, in words.
-use Rattle.std.specs.Prelude.{List, [], ◌++◌, Bool, cond, ℕ, eqb}
+use Rattle.std.specs.Prelude.{List, ◌++◌, Bool, cond, ℕ, eqb}
 use Rattle.text.specs.Numbers.{named, pair}
 use Rattle.text.specs.Quoted.{text}
 use Rattle.election.specs.Commands.{Command, SetUp, Start, Crash, Link, Run, Lose, Report, Rank}
-use Rattle.decision.specs.declared.Decision.{Decision}
-use Rattle.decision.specs.declared.Decision.TheVariants as code
+use Rattle.decision.specs.Decided.{command_of}
+use Rattle.decision.specs.declared.Command as declared
 
 -- set up of either kind of head
 unfoldable pub setting_up : Bool → ℕ → ℕ → List ℕ
@@ -27,14 +27,6 @@ doing (Lose p q) = pair (text "lose what is under way from ") p (text " to ") q
 doing Report = text "report, which changes nothing"
 doing (Rank p r) = pair (text "give station ") p (text " the rank ") r
 
--- the same of a command that was decided on; one that is turned down does nothing
-abbrev pub doing_of : Decision → List ℕ
-doing_of (code.Refused why) = []
-doing_of (code.SetUp clock n period) = doing (SetUp clock n period)
-doing_of (code.Start p) = doing (Start p)
-doing_of (code.Crash p) = doing (Crash p)
-doing_of (code.Link p q d) = doing (Link p q d)
-doing_of (code.Run t) = doing (Run t)
-doing_of (code.Lose p q) = doing (Lose p q)
-doing_of code.Report = doing Report
-doing_of (code.Rank p r) = doing (Rank p r)
+-- the same of a command of the code's
+abbrev pub doing_of : declared.Command → List ℕ
+doing_of c = doing (command_of c)

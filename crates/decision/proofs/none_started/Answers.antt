@@ -1,13 +1,13 @@
-use mathlib.Core.Path.{sym, ◌∙◌}
-use borrow.Author.Rules.{rules}
-use Rattle.lists.proofs.Test.{all_none, all_turn, all_not}
+use Rattle.std.proofs.Common.{Bool, sym, ◌∙◌, eqb, rules, tests}
+use Rattle.std.proofs.lemmas.Iterator.{YieldsList-from_slice}
+use Rattle.std.proofs.lemmas.Iterator.Search.{all_from_yields_List}
+use Rattle.station.specs.declared.Station.{Station}
+use Rattle.election.specs.System.{no_station}
+use Rattle.decision.proofs.Started.{all_to-list}
 use Rattle.decision.proofs.none_started.Goals as goal
 
-pub loop-k-init : goal.loop-k-init
-loop-k-init c = (search rules, all_none _)
-
-pub returns-then-not-never_started : goal.returns-then-not-never_started
-returns-then-not-never_started c = sym (all_not _ _ _ c.loop-k-test.true (sym c.never_started.ensures ∙ c.if-not-never_started.true))
-
-pub loop-k-preserved : goal.loop-k-preserved
-loop-k-preserved c = (search rules, all_turn _ _ c.loop-k.invariant.1 (sym c.never_started.ensures ∙ c.if-not-never_started.false))
+pub returns : goal.returns
+returns c =
+    let test : Station → Bool = λ x. eqb x.incarnation 0 in
+    all_from_yields_List test _ _ c.all.result c.all.ensures.ran (YieldsList-from_slice c.args.stations.now (cc)) (λ x b q k. search (rules, tests))
+    ∙ sym (all_to-list test no_station c.args.stations.now 8 c.told-stations)

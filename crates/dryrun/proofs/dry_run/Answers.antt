@@ -2,6 +2,5 @@ use Rattle.dryrun.proofs.Showing.{left_by}
 use Rattle.dryrun.proofs.dry_run.Goals as goal
 
 pub returns : goal.returns
-returns c = let done = c.command-done in
-    let listed = c.listing-listed in
-    left_by _ _ _ _ done.result listed.result c.first_refusal.result _ done.ensures listed.ensures c.first_refusal.ensures c.length_of.ensures
+returns c =
+    left_by c.args.s.now _ c.args.bytes.now _ _ _ _ _ _ c.command-done.ensures c.listing-listed.ensures (rw (c.err.ensures.value, c.err-2.ensures.value) at c.or.ensures) c.unwrap_or.ensures

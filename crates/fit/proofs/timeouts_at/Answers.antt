@@ -1,17 +1,13 @@
-use mathlib.Core.Path.{◌≡◌}
-use native.Mathlib.Omega.{arith}
-use borrow.Author.Rules.{rules}
-use Rattle.lists.specs.Count.{count_to}
-use Rattle.lists.proofs.Fold.{each-zero, each_turn}
+use Rattle.std.proofs.Common.{◌∙◌, sym, eqb, rules, tests}
+use Rattle.std.proofs.lemmas.Iterator.{YieldsList-from_slice}
+use Rattle.std.proofs.lemmas.Iterator.Consumers.{YieldsList-from_filter, count_from_yields_List}
+use Rattle.lists.proofs.Places.{count_to-filtered}
 use Rattle.fit.specs.Fit.{timeouts_at}
 use Rattle.fit.proofs.timeouts_at.Goals as goal
 
-pub loop-k-init : goal.loop-k-init
-loop-k-init c = (search rules, search rules, each-zero _ _)
-
-pub loop-k-preserved : goal.loop-k-preserved
-loop-k-preserved c = (search rules, omega arith, each_turn _ _ _ _ _ c.loop-k.invariant.2 c.counted-c.ensures.value)
-
 pub returns : goal.returns
-unfolding timeouts_at count_to
-returns c = let e : c.loop-k.k ≡ 8 = omega arith in rw e at c.loop-k.invariant.2
+unfolding timeouts_at
+returns c =
+    let a = c.args in
+    count_from_yields_List _ c.count.result c.count.ensures.ran (YieldsList-from_filter _ (λ x. eqb x a.high) (YieldsList-from_slice a.timeouts.now (cc)) c.filter.ensures.closure (λ x b q k. search (rules, tests)))
+    ∙ sym (count_to-filtered (λ x. eqb x a.high) 0 a.timeouts.now 8 c.told-timeouts)

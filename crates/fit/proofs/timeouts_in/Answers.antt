@@ -1,20 +1,12 @@
-use mathlib.Core.Path.{◌≡◌, sym, ◌∙◌}
-use native.Mathlib.Omega.{arith}
-use borrow.Author.Rules.{rules}
-use Rattle.lists.proofs.Test.{all_none, all_turn, all_not}
-use Rattle.fit.specs.Fit.{timeouts_in}
+use Rattle.std.proofs.Common.{rules, tests}
+use Rattle.std.proofs.lemmas.Iterator.{YieldsList-from_slice}
+use Rattle.std.proofs.lemmas.Iterator.Consumers.{YieldsList-from_enumerate}
+use Rattle.lists.proofs.Places.{all_places}
+use Rattle.fit.specs.Fit.{timeouts_in, timeout_in}
 use Rattle.fit.proofs.timeouts_in.Goals as goal
-
-pub loop-k-init : goal.loop-k-init
-loop-k-init c = (search rules, all_none _)
-
-pub returns-then-not-timeout_in : goal.returns-then-not-timeout_in
-unfolding timeouts_in
-returns-then-not-timeout_in c = sym (all_not 8 _ _ c.loop-k-test.true (sym c.timeout_in.ensures ∙ c.if-not-timeout_in.true))
-
-pub loop-k-preserved : goal.loop-k-preserved
-loop-k-preserved c = (search rules, all_turn _ _ c.loop-k.invariant.1 (sym c.timeout_in.ensures ∙ c.if-not-timeout_in.false))
 
 pub returns : goal.returns
 unfolding timeouts_in
-returns c = let e : c.loop-k.k ≡ 8 = omega arith in sym (rw e at c.loop-k.invariant.1)
+returns c =
+    let a = c.args in
+    all_places (timeout_in a.seat.me a.seat.n a.seat.period a.high) 0 a.timeouts.now 8 _ _ c.all.result c.all.ensures.ran (YieldsList-from_enumerate (YieldsList-from_slice a.timeouts.now (cc)) (search rules)) c.told-timeouts (λ x b q k. search (rules, tests))

@@ -1,22 +1,9 @@
-use mathlib.Core.Path.{◌≡◌}
-use native.Mathlib.Omega.{arith}
-use borrow.Author.Rules.{rules}
-use Rattle.lists.specs.Entries.{up_to}
-use Rattle.lists.proofs.Entries.{over-nil, over-turn}
-use Rattle.frame.specs.Reading.{counts_of}
+use Rattle.std.proofs.Common.{◌∙◌, rules, cond}
+use Rattle.std.specs.Prelude.{ltb}
+use Rattle.lists.proofs.Places.{from_fn_is}
+use Rattle.frame.specs.Reading.{count_at}
+use Rattle.frame.proofs.Body.{padded}
 use Rattle.frame.proofs.counts_of.Goals as goal
 
-pub loop-k-init : goal.loop-k-init
-unfolding up_to
-loop-k-init c = (search rules, search rules, over-nil _)
-
-pub loop-k-preserved : goal.loop-k-preserved
-loop-k-preserved c = (
-  search rules,
-  search rules,
-  over-turn _ _ _ _ _ (search rules) c.loop-k.invariant.2 c.count_at.ensures,
-)
-
 pub returns : goal.returns
-unfolding counts_of
-returns c = let e : c.loop-k.k ≡ c.args.n = omega arith in rw e at c.loop-k.invariant.2
+returns c = from_fn_is _ _ (λ k. cond (ltb k c.args.n) (count_at c.args.bytes.now k) 0) (λ i y q h. search rules) _ 8 c.from_fn.ensures.items ∙ padded c.args.n c.args.bytes.now c.requires.0

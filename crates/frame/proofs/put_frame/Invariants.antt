@@ -1,13 +1,13 @@
 use mathlib.Core.Path.{◌≡◌}
-use Prim.Native.Nat.{◌≤◌, ◌-◌}
+use Prim.Native.Nat.{◌≤◌}
 use lib.ListN.{length, take}
 use Rattle.lists.specs.Entries.{over}
 use Rattle.frame.specs.Frame.{frame, frame_size}
 use Rattle.frame.proofs.put_frame.Given as goal
 
 abbrev pub invariant-loop-k : goal.invariant-loop-k
-invariant-loop-k l =
-    (l.k ≤ length l.counts) × (l.k-end ≡ length l.counts) × (frame_size (length l.counts) ≤ length l.initial.buffer) × (length l.buffer ≡ length l.initial.buffer) × (l.buffer ≡ over (frame l.n l.sender (take l.k l.counts)) l.initial.buffer)
-
-abbrev pub decreases-loop-k : goal.decreases-loop-k
-decreases-loop-k l = length l.counts - l.k
+invariant-loop-k l = record {
+  room : frame_size (length l.counts) ≤ length l.initial.buffer;
+  size : length l.buffer ≡ length l.initial.buffer;
+  laid : l.buffer ≡ over (frame l.n l.sender (take l.k l.counts)) l.initial.buffer;
+}

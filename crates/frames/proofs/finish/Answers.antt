@@ -1,7 +1,8 @@
-use borrow.Author.Tests.{not-true}
+use Rattle.std.proofs.Common.{sym, ◌∙◌}
+use Rattle.std.proofs.KnownBytes.{Appends-nil}
 use Rattle.frames.specs.Line.{printed}
 use Rattle.frames.proofs.finish.Goals as goal
 
-pub returns-then-not-line-clause-finished : goal.returns-then-not-line-clause-finished
+pub returns-then-not-has_begun-clause-taken : goal.returns-then-not-has_begun-clause-taken
 unfolding printed
-returns-then-not-line-clause-finished g c = rw (not-true c.args.line.begun c.if-not-line.true)
+returns-then-not-has_begun-clause-taken g c = rw (sym c.has_begun.ensures ∙ c.if-not-has_begun.true) (Appends-nil (g.W.Write.contents c.args.writer.now))

@@ -1,9 +1,13 @@
-use mathlib.Core.Path.{sym, ◌∙◌}
+use mathlib.Core.Path.{◌≡◌, sym, ◌∙◌}
+use Rattle.std.specs.Prelude.{Err}
+use borrow.Author.Rules.{rules}
 use Rattle.script.proofs.Answers.{is-accepted, bytes_left, wrong_left}
 use Rattle.script.proofs.assemble.Goals as goal
 
-pub returns-in-Done : goal.returns-in-Done
-returns-in-Done c = bytes_left _ _ _ _ (is-accepted _ _ _ (sym c.measure-r.ensures ∙ c.in-Done.is)) c.fill.ensures
+pub returns : goal.returns
+returns c = bytes_left _ _ _ _ (is-accepted _ _ _ (sym c.measure.ensures ∙ c.in_ok-measure.was)) c.fill.ensures
 
-pub returns-in-Wrong : goal.returns-in-Wrong
-returns-in-Wrong c = wrong_left _ _ _ _ (sym c.in-Wrong.is ∙ c.measure-r.ensures)
+pub returns-in_err-measure : goal.returns-in_err-measure
+returns-in_err-measure c =
+    let e : c.from_residual.result ≡ Err c.in_err-measure.field-0.0 = search rules in
+    rw e (wrong_left _ _ _ (sym c.measure.ensures ∙ c.in_err-measure.was))

@@ -3,17 +3,17 @@ ghost use Rattle.std.specs.Prelude.{◌≡◌, ◌+◌, ◌≤◌, ◌<◌, leng
 ghost use Rattle.text.specs.Wrote.{Wrote};
 ghost use Rattle.election.specs.Schedule.{most_bytes};
 ghost use Rattle.script.specs.Assembled.{script};
-ghost use Rattle.script.specs.Meanings.{meaning, Proper, line_bytes};
-ghost use Rattle.script.specs.Passes.{LineAt, fitted, stepped, measured, bytes_in, Accepted};
+ghost use Rattle.script.specs.Meanings.{meaning, Proper};
+ghost use Rattle.script.specs.Passes.{LineAt, stepped, measured, bytes_in, Accepted};
 
 use crate::rules::lines::{Line, line_size, put_line, read_line};
 use crate::rules::words::{Part, end_of};
-use crate::{Assembled, Why};
+use crate::{Why, WrongLine};
 
-// The line at a place, and where the next one begins.
-#[derive(Clone, Copy)]
+// The line at a place, or why it is wrong, and where the next one begins.
+#[derive(Clone, Copy, Debug, PartialEq, Eq)]
 pub struct Turn {
-    pub line: Line,
+    pub line: Result<Line, Why>,
     pub next: usize,
 }
 
@@ -33,71 +33,41 @@ pub fn line_at(text: &[u8], at: usize) -> Turn
     Turn { line, next: end }
 }
 
-// A line behind others: how many bytes there are with it, or what is wrong.
-#[derive(Clone, Copy)]
-pub enum Step {
-    Size(usize),
-    Wrong(Why),
-}
-
-// The bytes of a line counted to those before it.
-fn count_bytes(line: Line, size: usize, room: usize) -> Step
-    requires { Proper line × (size ≤ most_bytes) }
-    ensures { result ≡ fitted room (size + length (line_bytes line)) }
-{
-    let all = size + line_size(line);
-    if 65536 < all {
-        return Step::Wrong(Why::ScheduleLong);
-    }
-    if room < all {
-        return Step::Wrong(Why::BufferShort);
-    }
-    Step::Size(all)
-}
-
-// How many bytes there are with a line, or what is wrong.
-fn count_line(line: Line, size: usize, room: usize) -> Step
+// How many bytes there are with a line behind others, or what is wrong: the line, or that they don't fit.
+fn count_line(line: Result<Line, Why>, size: usize, room: usize) -> Result<usize, Why>
     requires { Proper line × (size ≤ most_bytes) }
     ensures { result ≡ stepped room size (meaning line) }
 {
-    match line {
-        Line::Nothing => count_bytes(line, size, room),
-        Line::Command(_, _, _, _) => count_bytes(line, size, room),
-        Line::Run(_) => count_bytes(line, size, room),
-        Line::Wrong(why) => Step::Wrong(why),
+    let all = size + line_size(line?);
+    if 65536 < all {
+        return Err(Why::ScheduleLong);
     }
+    if room < all {
+        return Err(Why::BufferShort);
+    }
+    Ok(all)
 }
 
 // How many bytes a text gives, or the first line that is wrong.
-pub fn measure(text: &[u8], room: usize) -> Assembled
+pub fn measure(text: &[u8], room: usize) -> Result<usize, WrongLine>
     ensures { result ≡ measured (script room text.now) }
 {
+    // (d) each line begins behind the last one, which has to be read first: no iterator over the text is plainer
     let mut at = 0;
     let mut passed = 0;
     let mut size = 0;
     while at < text.len() {
         let turn = line_at(text, at);
-        let line = turn.line;
-        let next = turn.next;
-        let step = count_line(line, size, room);
-        match step {
-            Step::Wrong(why) => {
-                return Assembled::Wrong {
-                    line: passed + 1,
-                    why,
-                };
-            }
-            Step::Size(all) => {
-                size = all;
-            }
-        }
+        let line = passed + 1;
+        size = count_line(turn.line, size, room).map_err(|why| WrongLine { line, why })?;
         passed += 1;
-        at = next;
+        at = turn.next;
     }
-    Assembled::Done(size)
+    Ok(size)
 }
 
-// Writes the bytes of a text that has no wrong line.
+// Writes the bytes of a text that has no wrong line; so each line is there to unwrap.
+// (d) It goes from line to line as `measure` does.
 pub fn fill(text: &[u8], buffer: &mut [u8]) -> usize
     requires { Accepted (length buffer.old) text.now }
     ensures { Wrote (bytes_in (length buffer.old) text.now) buffer.old result buffer.new }
@@ -106,7 +76,7 @@ pub fn fill(text: &[u8], buffer: &mut [u8]) -> usize
     let mut size = 0;
     while at < text.len() {
         let turn = line_at(text, at);
-        let line = turn.line;
+        let line = turn.line.unwrap();
         size += put_line(line, &mut buffer[size..]);
         at = turn.next;
     }

@@ -3,11 +3,10 @@ ghost use Rattle.std.specs.Prelude.{◌<◌};
 ghost use Rattle.script.specs.Entries.{entries};
 ghost use Rattle.script.specs.Tabled.{Tabled};
 
-// A command as it is written: its words, at the front of `name`; how many numbers stand behind them, and in which range; and its byte.
-#[derive(Clone, Copy)]
+// A command as it is written: its words; how many numbers stand behind them, and in which range; and its byte.
+#[derive(Clone, Copy, Debug, PartialEq, Eq)]
 pub struct Entry {
-    pub name: [u8; 13],
-    pub size: usize,
+    pub name: &'static str,
     pub numbers: usize,
     pub least: u32,
     pub most: u32,
@@ -20,80 +19,70 @@ pub const ENTRIES: usize = 10;
 // Where one name begins with another, the longer one stands first. An operand that has no number is 0.
 const TABLE: [Entry; ENTRIES] = [
     Entry {
-        name: *b"set up clocks",
-        size: 13,
+        name: "set up clocks",
         numbers: 2,
         least: 0,
         most: 255,
         code: 9,
     },
     Entry {
-        name: *b"set up       ",
-        size: 6,
+        name: "set up",
         numbers: 2,
         least: 0,
         most: 255,
         code: 1,
     },
     Entry {
-        name: *b"start        ",
-        size: 5,
+        name: "start",
         numbers: 1,
         least: 0,
         most: 255,
         code: 2,
     },
     Entry {
-        name: *b"crash        ",
-        size: 5,
+        name: "crash",
         numbers: 1,
         least: 0,
         most: 255,
         code: 3,
     },
     Entry {
-        name: *b"link         ",
-        size: 4,
+        name: "link",
         numbers: 3,
         least: 0,
         most: 255,
         code: 4,
     },
     Entry {
-        name: *b"cut          ",
-        size: 3,
+        name: "cut",
         numbers: 2,
         least: 0,
         most: 255,
         code: 4,
     },
     Entry {
-        name: *b"run          ",
-        size: 3,
+        name: "run",
         numbers: 1,
         least: 1,
         most: 1000000,
         code: 5,
     },
     Entry {
-        name: *b"lose         ",
-        size: 4,
+        name: "lose",
         numbers: 2,
         least: 0,
         most: 255,
         code: 6,
     },
     Entry {
-        name: *b"report       ",
-        size: 6,
+        name: "report",
         numbers: 0,
         least: 0,
         most: 255,
         code: 7,
     },
     Entry {
-        name: *b"rank         ",
-        size: 4,
+        name: "rank",
         numbers: 2,
         least: 0,
         most: 255,

@@ -1,23 +1,33 @@
 // Where in a text a byte of its schedule comes from.
-ghost use Rattle.std.specs.Prelude.{◌≡◌, ◌≤◌};
+ghost use Rattle.std.specs.Prelude.{◌≡◌, ◌≤◌, length};
 ghost use Rattle.election.specs.Schedule.{most_bytes};
+ghost use Rattle.script.specs.Meanings.{Proper, line_bytes, most_line_bytes};
 ghost use Rattle.script.specs.Places.{line_holding};
 
+use crate::Why;
 use crate::rules::assembling::line_at;
-use crate::rules::lines::line_size;
+use crate::rules::lines::{Line, line_size};
+
+// How many bytes a line has; none where it is wrong.
+fn read_size(line: Result<Line, Why>) -> usize
+    requires { Proper line }
+    ensures { (result ≡ length (line_bytes line)) × (result ≤ most_line_bytes) }
+{
+    line.map_or(0, line_size)
+}
 
 // The number of the line whose bytes hold an offset of the schedule, 0 where none does.
 pub fn line_holding(text: &[u8], offset: usize) -> usize
     requires { offset ≤ most_bytes }
     ensures { result ≡ line_holding text.now offset }
 {
+    // (d) each line begins behind the last one, which has to be read first
     let mut at = 0;
     let mut passed = 0;
     let mut size = 0;
     while at < text.len() {
         let turn = line_at(text, at);
-        let line = turn.line;
-        size += line_size(line);
+        size += read_size(turn.line);
         if offset < size {
             return passed + 1;
         }

@@ -7,10 +7,10 @@ ghost use Rattle.script.specs.Pieces.{Phrased, line_room};
 ghost use Rattle.script.specs.Shown.{spaced, line_of};
 
 use crate::rules::entries::entry_at;
-use text::rules::{put, put_named};
+use text::rules::{Decimal, Text};
 
 // The entry by which a command is written, and three numbers: the first of them, as many as the entry has, are those of the command.
-#[derive(Clone, Copy)]
+#[derive(Clone, Copy, Debug, PartialEq, Eq)]
 pub struct Phrase {
     pub entry: usize,
     pub numbers: [u64; 3],
@@ -20,7 +20,7 @@ pub struct Phrase {
 pub fn number_at(bytes: &[u8], i: usize) -> u64
     ensures { (result ≡ get_or bytes.now i 0) × (result < 256) }
 {
-    if i < bytes.len() { bytes[i] as u64 } else { 0 }
+    bytes.get(i).map_or(0, |&b| u64::from(b))
 }
 
 // The entry and the numbers of the command at the front of the bytes.
@@ -42,6 +42,7 @@ fn phrase_of(bytes: &[u8]) -> Phrase
             }
             Phrase { entry: 4, numbers }
         }
+        // (d) number_at answers u64: u16::from_le_bytes would first cast both back to bytes
         5 => Phrase {
             entry: 6,
             numbers: [x + 256 * y, y, z],
@@ -58,10 +59,7 @@ fn put_name(k: usize, buffer: &mut [u8]) -> usize
     requires { (k < entries) × (length (entry k).name ≤ length buffer.old) }
     ensures { Wrote (entry k).name buffer.old result buffer.new }
 {
-    let e = entry_at(k);
-    let name = e.name;
-    let size = e.size;
-    put(&name[..size], buffer)
+    entry_at(k).name.put(buffer)
 }
 
 // Writes numbers, a space before each.
@@ -70,8 +68,8 @@ fn put_numbers(numbers: &[u64], buffer: &mut [u8]) -> usize
     ensures { Wrote (spaced numbers.now) buffer.old result buffer.new }
 {
     let mut at = 0;
-    for i in 0..numbers.len() {
-        at += put_named(b" ", numbers[i], &mut buffer[at..]);
+    for &x in numbers {
+        at += (" ", Decimal(x)).put(&mut buffer[at..]);
     }
     at
 }
@@ -81,8 +79,7 @@ fn count_of(k: usize) -> usize
     requires { k < entries }
     ensures { (result ≡ (entry k).numbers) × (result ≤ 3) }
 {
-    let e = entry_at(k);
-    e.numbers
+    entry_at(k).numbers
 }
 
 // Writes the line of the command at the front of the bytes.
@@ -96,7 +93,7 @@ pub fn put_line(bytes: &[u8], buffer: &mut [u8]) -> usize
     let n = count_of(k);
     let a = put_name(k, buffer);
     let b = a + put_numbers(&numbers[..n], &mut buffer[a..]);
-    b + put(b"\n", &mut buffer[b..])
+    b + "\n".put(&mut buffer[b..])
 }
 
 // How long that line is.

@@ -1,6 +1,6 @@
 -- The function schedule meets its contract.
-use mathlib.Core.Path.{◌≡◌, refl, sym, ◌∙◌}
-use mathlib.Core.List.{[], ◌∷◌}
+use mathlib.Core.Path.{◌≡◌, refl}
+use mathlib.Core.List.{[]}
 use native.Mathlib.Omega.{arith}
 use Rattle.election.specs.declared.Refusal.{Refusal}
 use Rattle.election.proofs.InitialSound.{fresh-sound}
@@ -9,9 +9,10 @@ use Rattle.simulator.specs.declared.rules.Stop.{Stop}
 use Rattle.simulator.specs.declared.rules.Stop.TheVariants.{Full, End, Refused}
 use Rattle.simulator.proofs.Operations.{gone-through}
 use Rattle.simulator.proofs.schedule.Goals as goal
+use Rattle.simulator.proofs.schedule.Goals.{in-Refused, in_default}
 
-pub go_on-r-requires : goal.go_on-r-requires
-go_on-r-requires c = rw c.fresh-2.ensures fresh-sound
+pub go_on-gone-requires : goal.go_on-gone-requires
+go_on-gone-requires c = rw c.fresh-layout.ensures fresh-sound
 
 -- an end that is no refusal has no number
 no_number : (stop : Stop) → ((why : Refusal) → stop ≡ Refused why → ⊥) → refusal_of stop ≡ 0
@@ -19,14 +20,11 @@ no_number Full h = refl
 no_number End h = refl
 no_number (Refused why) h = absurd (h why refl)
 
-pub returns-in-Refused : goal.returns-in-Refused
-returns-in-Refused c =
-    let r = c.go_on-r.result in
-    (λ i. record { refusal = refusal_of (sym c.in-Refused.is i); offset = r.at; system = c.system_of-system.ensures i })
-    ∙ gone-through _ (0 ∷ []) _ c.fresh-2.result r (omega arith) c.fresh-2.ensures c.go_on-r.ensures
-
-pub returns-in_default : goal.returns-in_default
-returns-in_default c =
-    let r = c.go_on-r.result in
-    (λ i. record { refusal = sym (no_number r.stop c.in_default.not-Refused) i; offset = r.at; system = c.system_of-system.ensures i })
-    ∙ gone-through _ (0 ∷ []) _ c.fresh-2.result r (omega arith) c.fresh-2.ensures c.go_on-r.ensures
+pub returns : goal.returns
+returns c =
+    let r = c.go_on-gone.result in
+    let through = gone-through c.args.bytes.now [] c.go_on-gone.new.buffer c.fresh-layout.result c.go_on-gone.new.s r (omega arith) c.fresh-layout.ensures c.go_on-gone.ensures in
+    elim c.match-gone.branch [
+      | in-Refused w ↦ rw (w.ended-is, c.system_of-2.ensures) (rw w.in-Refused.is at through)
+      | in_default w ↦ rw (w.ended-is, c.system_of-2.ensures) (rw (no_number r.stop w.in_default.not-Refused) at through)
+    ]

@@ -1,14 +1,12 @@
-use mathlib.Core.Path.{sym, ◌∙◌}
-use Rattle.lists.proofs.Test.{all_none, all_turn, all_not}
-use Rattle.election.specs.System.{places}
-use borrow.Author.Rules.{rules}
+use Rattle.std.proofs.Common.{◌∙◌, sym, rules, tests}
+use Rattle.std.proofs.lemmas.Iterator.{YieldsList-from_slice}
+use Rattle.std.proofs.lemmas.Iterator.Search.{all_from_yields_List}
+use Rattle.election.specs.Sound.{empty_message}
+use Rattle.election.specs.System.{no_message}
+use Rattle.soundness.proofs.Elements.{all_to-elements}
 use Rattle.soundness.proofs.empty_places.Goals as goal
 
-pub loop-k-init : goal.loop-k-init
-loop-k-init c = (search rules, all_none _)
-
-pub returns-then-not-empty_message : goal.returns-then-not-empty_message
-returns-then-not-empty_message c = sym (all_not places _ _ c.loop-k-test.true (sym c.empty_message.ensures ∙ c.if-not-empty_message.true))
-
-pub loop-k-preserved : goal.loop-k-preserved
-loop-k-preserved c = (search rules, all_turn _ _ c.loop-k.invariant.1 (sym c.empty_message.ensures ∙ c.if-not-empty_message.false))
+pub returns : goal.returns
+returns c =
+    all_from_yields_List empty_message _ _ c.all.result c.all.ensures.ran (YieldsList-from_slice c.args.l.now.messages (cc)) (λ x b q k. search (rules, tests))
+    ∙ sym (all_to-elements empty_message no_message c.args.l.now.messages 16 (search rules))

@@ -1,17 +1,11 @@
-use mathlib.Core.Path.{sym, ◌∙◌}
-use Rattle.lists.proofs.Test.{all_none, all_turn, all_not}
+use Rattle.std.proofs.Common.{◌∙◌, sym, refl, rules, tests}
+use Rattle.std.proofs.lemmas.Iterator.{YieldsList-from_range}
+use Rattle.std.proofs.lemmas.Iterator.Search.{all_from_yields_List}
 use Rattle.election.specs.Sound.{place_in}
-use Rattle.election.proofs.Places.{seat_of}
-use borrow.Author.Rules.{rules}
+use Rattle.soundness.proofs.Elements.{all_to-range}
 use Rattle.soundness.proofs.links_in.Goals as goal
 
-pub loop-k-init : goal.loop-k-init
-loop-k-init c = (search rules, all_none _)
-
-pub returns-then-not-link_place : goal.returns-then-not-link_place
-unfolding place_in
-returns-then-not-link_place c = sym (all_not 64 _ _ c.loop-k-test.true (rw (seat_of _ _) (sym c.link_place.ensures ∙ c.if-not-link_place.true)))
-
-pub loop-k-preserved : goal.loop-k-preserved
-unfolding place_in
-loop-k-preserved c = (search rules, all_turn _ _ c.loop-k.invariant.1 (rw (seat_of _ _) (sym c.link_place.ensures ∙ c.if-not-link_place.false)))
+pub returns : goal.returns
+returns c =
+    all_from_yields_List (place_in c.args.s.now) _ _ c.all.result c.all.ensures.ran (YieldsList-from_range 0 64 64 refl refl) (λ x b q k. search (rules, tests))
+    ∙ sym (all_to-range 64 (place_in c.args.s.now))

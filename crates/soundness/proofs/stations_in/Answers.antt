@@ -1,16 +1,11 @@
-use mathlib.Core.Path.{sym, ◌∙◌}
-use Rattle.lists.proofs.Test.{all_none, all_turn, all_not}
+use Rattle.std.proofs.Common.{◌∙◌, sym, refl, rules, tests}
+use Rattle.std.proofs.lemmas.Iterator.{YieldsList-from_range}
+use Rattle.std.proofs.lemmas.Iterator.Search.{all_from_yields_List}
 use Rattle.election.specs.Sound.{station_in}
-use borrow.Author.Rules.{rules}
+use Rattle.soundness.proofs.Elements.{all_to-range}
 use Rattle.soundness.proofs.stations_in.Goals as goal
 
-pub loop-k-init : goal.loop-k-init
-loop-k-init c = (search rules, all_none _)
-
-pub returns-then-not-station_place : goal.returns-then-not-station_place
-unfolding station_in
-returns-then-not-station_place c = sym (all_not 8 _ _ c.loop-k-test.true (sym c.station_place.ensures ∙ c.if-not-station_place.true))
-
-pub loop-k-preserved : goal.loop-k-preserved
-unfolding station_in
-loop-k-preserved c = (search rules, all_turn _ _ c.loop-k.invariant.1 (sym c.station_place.ensures ∙ c.if-not-station_place.false))
+pub returns : goal.returns
+returns c =
+    all_from_yields_List (station_in c.args.s.now) _ _ c.all.result c.all.ensures.ran (YieldsList-from_range 0 8 8 refl refl) (λ x b q k. search (rules, tests))
+    ∙ sym (all_to-range 8 (station_in c.args.s.now))

@@ -1,78 +1,58 @@
 // Hex text, read into the front of a buffer and written there.
-ghost use Rattle.std.specs.Prelude.{◌≡◌, ◌<◌, ◌≤◌, length, take};
-ghost use Rattle.text.specs.Hex.{is_blank, digit_of, digit, spelled, spaced};
+ghost use Rattle.std.specs.Prelude.{◌≡◌, ◌<◌, ◌≤◌, IfSome, Some, None, cond, length};
+ghost use Rattle.text.specs.Hex.{is_blank, is_digit, digit_of, digit, read, spelled, spaced};
 ghost use Rattle.text.specs.Wrote.{Wrote};
 
 // Whether a character is a space, a tab or a carriage return.
+#[tactic(auto, unfolding(crate::specs::Hex::is_blank))]
 pub fn is_blank(c: u8) -> bool
     ensures { result ≡ is_blank c }
 {
-    (c == 32) | (c == 9) | (c == 13)
+    matches!(c, b' ' | b'\t' | b'\r')
 }
 
-// The value of a hex digit, in either case; 16 for any other character.
-pub fn digit_of(c: u8) -> u8
-    ensures { result ≡ digit_of c }
+// The value of a hex digit, in either case; none for any other character.
+#[tactic(auto, unfolding(crate::specs::Hex::digit_of))]
+pub fn digit_of(c: u8) -> Option<u8>
+    ensures { result ≡ cond (is_digit c) (Some (digit_of c)) None }
 {
-    if (48 <= c) & (c <= 57) {
-        return c - 48;
+    match c {
+        b'0'..=b'9' => Some(c - b'0'),
+        b'A'..=b'F' => Some(c - b'A' + 10),
+        b'a'..=b'f' => Some(c - b'a' + 10),
+        _ => None,
     }
-    if (65 <= c) & (c <= 70) {
-        return c - 55;
-    }
-    if (97 <= c) & (c <= 102) {
-        return c - 87;
-    }
-    16
 }
 
-// What a line spells: whether it is hex, and how many bytes there are, none where it is not.
-#[derive(Clone, Copy)]
-pub struct Spelling {
-    pub hex: bool,
-    pub size: usize,
-}
-
-// Reads a line of hex text into the front of the buffer.
-pub fn read_hex(line: &[u8], buffer: &mut [u8]) -> Spelling
+// Reads a line of hex text into the front of the buffer, and answers how many bytes there are; none where it is no hex.
+pub fn read_hex(line: &[u8], buffer: &mut [u8]) -> Option<usize>
     requires { length line.now ≤ length buffer.old }
-    ensures buffer_after { record { hex = result.hex; bytes = take result.size buffer.new } ≡ spelled line.now }
-    ensures size_in_bounds { result.size ≤ length buffer.new }
+    ensures buffer_after { read result buffer.new ≡ spelled line.now }
+    ensures size_in_bounds { IfSome result (λ size. size ≤ length buffer.new) }
 {
-    let mut at = 0;
     let mut size = 0;
-    while at < line.len() {
-        if is_blank(line[at]) {
-            at += 1;
-        } else {
-            if line.len() - at < 2 {
-                return Spelling {
-                    hex: false,
-                    size: 0,
-                };
+    let mut rest = line;
+    loop {
+        match rest {
+            [] => return Some(size),
+            [c, after @ ..] if is_blank(*c) => rest = after,
+            [high, low, after @ ..] => {
+                buffer[size] = 16 * digit_of(*high)? + digit_of(*low)?;
+                size += 1;
+                rest = after;
             }
-            let high = digit_of(line[at]);
-            let low = digit_of(line[at + 1]);
-            if !((high < 16) & (low < 16)) {
-                return Spelling {
-                    hex: false,
-                    size: 0,
-                };
-            }
-            buffer[size] = 16 * high + low;
-            size += 1;
-            at += 2;
+            _ => return None,
         }
     }
-    Spelling { hex: true, size }
 }
 
 // The digit of a number below 16, in lower case.
+#[tactic(auto, unfolding(crate::specs::Hex::digit))]
 fn digit_for(d: u8) -> u8
     requires { d < 16 }
     ensures { result ≡ digit d }
 {
-    if d < 10 { 48 + d } else { 87 + d }
+    if d < 10 { b'0' + d } else { b'a' + (d - 10) }
 }
 
 // Writes bytes as hex text in lower case, a space before each.
@@ -81,9 +61,8 @@ pub fn put_hex(bytes: &[u8], buffer: &mut [u8]) -> usize
     ensures { Wrote (spaced bytes.now) buffer.old result buffer.new }
 {
     let mut at = 0;
-    for k in 0..bytes.len() {
-        let b = bytes[k];
-        buffer[at] = 32;
+    for &b in bytes {
+        buffer[at] = b' ';
         buffer[at + 1] = digit_for(b / 16);
         buffer[at + 2] = digit_for(b % 16);
         at += 3;

@@ -1,10 +1,18 @@
 // What an accepted command does, in words.
-ghost use Rattle.std.specs.Prelude.{◌≤◌, length};
+ghost use Rattle.std.specs.Prelude.{◌≡◌, ◌≤◌, length};
+ghost use Rattle.text.specs.Numbers.{named};
 ghost use Rattle.text.specs.Wrote.{Wrote};
 ghost use Rattle.words.specs.Doings.{setting_up, linking, doing_of};
 
-use decision::Decision;
-use text::rules::{put, put_named, put_pair};
+use decision::Command;
+use text::rules::{Decimal, Text};
+
+// A word and a number behind it.
+fn named(word: &'static str, number: u8) -> (&'static str, Decimal)
+    ensures { ⟦<(&'static str, Decimal) as Text>⟧.bytes result ≡ named word.now number }
+{
+    (word, Decimal(u64::from(number)))
+}
 
 // Writes what set up does.
 #[tactic(auto, unfolding(crate::specs::Doings::setting_up, text::specs::Quoted::text))]
@@ -12,22 +20,16 @@ fn put_set_up(clock: bool, n: u8, period: u8, buffer: &mut [u8]) -> usize
     requires { length (setting_up clock n period) ≤ length buffer.old }
     ensures { Wrote (setting_up clock n period) buffer.old result buffer.new }
 {
+    let period = named(", period ", period);
     if clock {
-        return put_pair(
-            b"set up heads with a running clock, stations ",
-            n as u64,
-            b", period ",
-            period as u64,
-            buffer,
-        );
+        (
+            named("set up heads with a running clock, stations ", n),
+            period,
+        )
+            .put(buffer)
+    } else {
+        (named("set up heads with flash, stations ", n), period).put(buffer)
     }
-    put_pair(
-        b"set up heads with flash, stations ",
-        n as u64,
-        b", period ",
-        period as u64,
-        buffer,
-    )
 }
 
 // Writes what a link setting does.
@@ -36,40 +38,36 @@ fn put_link(p: u8, q: u8, d: u8, buffer: &mut [u8]) -> usize
     requires { length (linking p q d) ≤ length buffer.old }
     ensures { Wrote (linking p q d) buffer.old result buffer.new }
 {
+    let to = named(" to ", q);
     if d == 0 {
-        return put_pair(b"cut the link from ", p as u64, b" to ", q as u64, buffer);
+        (named("cut the link from ", p), to).put(buffer)
+    } else {
+        (named("set the link from ", p), to, named(", delay ", d)).put(buffer)
     }
-    let at = put_pair(b"set the link from ", p as u64, b" to ", q as u64, buffer);
-    at + put_named(b", delay ", d as u64, &mut buffer[at..])
 }
 
-// Writes what a command that was decided on does; of one that is turned down, nothing.
+// Writes what a command that is taken does.
 #[tactic(auto, unfolding(crate::specs::Doings::doing, text::specs::Quoted::text))]
-pub fn put_doing(d: Decision, buffer: &mut [u8]) -> usize
-    requires { length (doing_of d) ≤ length buffer.old }
-    ensures { Wrote (doing_of d) buffer.old result buffer.new }
+pub fn put_doing(command: Command, buffer: &mut [u8]) -> usize
+    requires { length (doing_of command) ≤ length buffer.old }
+    ensures { Wrote (doing_of command) buffer.old result buffer.new }
 {
-    match d {
-        Decision::Refused(_) => 0,
-        Decision::SetUp { clock, n, period } => put_set_up(clock, n, period, buffer),
-        Decision::Start(p) => put_named(b"start station ", p as u64, buffer),
-        Decision::Crash(p) => put_named(b"crash station ", p as u64, buffer),
-        Decision::Link { from, to, delay } => put_link(from, to, delay, buffer),
-        Decision::Run(t) => put_named(b"run, ticks ", t as u64, buffer),
-        Decision::Lose { from, to } => put_pair(
-            b"lose what is under way from ",
-            from as u64,
-            b" to ",
-            to as u64,
-            buffer,
-        ),
-        Decision::Report => put(b"report, which changes nothing", buffer),
-        Decision::Rank { station, rank } => put_pair(
-            b"give station ",
-            station as u64,
-            b" the rank ",
-            rank as u64,
-            buffer,
-        ),
+    match command {
+        Command::SetUp { clock, n, period } => put_set_up(clock, n, period, buffer),
+        Command::Start(p) => named("start station ", p).put(buffer),
+        Command::Crash(p) => named("crash station ", p).put(buffer),
+        Command::Link { from, to, delay } => put_link(from, to, delay, buffer),
+        Command::Run(ticks) => ("run, ticks ", Decimal(u64::from(ticks))).put(buffer),
+        Command::Lose { from, to } => {
+            (
+                named("lose what is under way from ", from),
+                named(" to ", to),
+            )
+                .put(buffer)
+        }
+        Command::Report => "report, which changes nothing".put(buffer),
+        Command::Rank { station, rank } => {
+            (named("give station ", station), named(" the rank ", rank)).put(buffer)
+        }
     }
 }

@@ -1,48 +1,54 @@
 // Why something is turned down, in words.
-ghost use Rattle.std.specs.Prelude.{◌≤◌, length};
+ghost use Rattle.std.specs.Prelude.{◌≡◌, ◌≤◌, length};
 ghost use Rattle.text.specs.Wrote.{Wrote};
 ghost use Rattle.election.specs.Commands.{number_of};
 ghost use Rattle.words.specs.Reasons.{reason, refused};
 
 use election::Refusal;
-use listing::rules::ending::number_of;
-use text::rules::{put, put_named};
+use text::rules::{Decimal, Text};
+
+// The reason of a refusal.
+#[tactic(auto, unfolding(crate::specs::Reasons::reason, text::specs::Quoted::text))]
+pub fn reason(why: Refusal) -> &'static str
+    ensures { result.now ≡ reason (number_of why) }
+{
+    match why {
+        Refusal::UnknownCommand => "the byte is none of the nine commands",
+        Refusal::MissingOperand => "operands are missing",
+        Refusal::NotSetUp => "nothing is set up",
+        Refusal::SetUpTwice => "set up a second time",
+        Refusal::StationsRange => "stations not 2 to 8",
+        Refusal::PeriodRange => "period not 16 to 255",
+        Refusal::StationRange => "a station number not 1 to n",
+        Refusal::StationUp => "the station to start is up",
+        Refusal::StationDown => "the station to crash is down",
+        Refusal::WornOut => "the station to start has been started 4095 times",
+        Refusal::SameStation => "a link from a station to itself",
+        Refusal::NoTicks => "a run of no ticks",
+        Refusal::PastLastTick => "a run past tick 1,000,000",
+        Refusal::Unsound => "the table is unsound",
+        Refusal::BufferShort => "the buffer is shorter than the listing",
+        Refusal::ScheduleLong => "more than 65,536 bytes",
+        Refusal::RankRange => "a rank above 7",
+        Refusal::AlreadyStarted => "a rank after the first start of any station",
+        Refusal::ClockHeads => "a rank on heads with a running clock",
+    }
+}
 
 // Writes the reason of a refusal.
-#[tactic(auto, unfolding(crate::specs::Reasons::reason, text::specs::Quoted::text))]
 pub fn put_reason(why: Refusal, buffer: &mut [u8]) -> usize
     requires { length (reason (number_of why)) ≤ length buffer.old }
     ensures { Wrote (reason (number_of why)) buffer.old result buffer.new }
 {
-    match why {
-        Refusal::UnknownCommand => put(b"the byte is none of the nine commands", buffer),
-        Refusal::MissingOperand => put(b"operands are missing", buffer),
-        Refusal::NotSetUp => put(b"nothing is set up", buffer),
-        Refusal::SetUpTwice => put(b"set up a second time", buffer),
-        Refusal::StationsRange => put(b"stations not 2 to 8", buffer),
-        Refusal::PeriodRange => put(b"period not 16 to 255", buffer),
-        Refusal::StationRange => put(b"a station number not 1 to n", buffer),
-        Refusal::StationUp => put(b"the station to start is up", buffer),
-        Refusal::StationDown => put(b"the station to crash is down", buffer),
-        Refusal::WornOut => put(b"the station to start has been started 4095 times", buffer),
-        Refusal::SameStation => put(b"a link from a station to itself", buffer),
-        Refusal::NoTicks => put(b"a run of no ticks", buffer),
-        Refusal::PastLastTick => put(b"a run past tick 1,000,000", buffer),
-        Refusal::Unsound => put(b"the table is unsound", buffer),
-        Refusal::BufferShort => put(b"the buffer is shorter than the listing", buffer),
-        Refusal::ScheduleLong => put(b"more than 65,536 bytes", buffer),
-        Refusal::RankRange => put(b"a rank above 7", buffer),
-        Refusal::AlreadyStarted => put(b"a rank after the first start of any station", buffer),
-        Refusal::ClockHeads => put(b"a rank on heads with a running clock", buffer),
-    }
+    reason(why).put(buffer)
 }
 
 // Writes a refusal: its number and its reason.
+#[tactic(auto, unfolding(crate::specs::Reasons::refused, text::specs::Quoted::text))]
 pub fn put_refused(why: Refusal, buffer: &mut [u8]) -> usize
     requires { length (refused (number_of why)) ≤ length buffer.old }
     ensures { Wrote (refused (number_of why)) buffer.old result buffer.new }
 {
-    let a = put_named(b"refused ", number_of(why) as u64, buffer);
-    let b = a + put(b", ", &mut buffer[a..]);
-    b + put_reason(why, &mut buffer[b..])
+    let number = Decimal(u64::from(why.number()));
+    (("refused ", number), ", ", reason(why)).put(buffer)
 }

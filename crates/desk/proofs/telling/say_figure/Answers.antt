@@ -1,23 +1,25 @@
 use mathlib.Core.Path.{sym}
+use lib.IntN.{pos}
+use lib.ListN.{take}
 use lib.Seq.{length-take-le}
 use Rattle.desk.proofs.Figuring.{says-no_figure}
-use Rattle.desk.proofs.Saying.{was_read, was_unread}
+use Rattle.desk.proofs.Saying.{was_read, was_unread, spoken}
 use Rattle.desk.proofs.telling.say_figure.Goals as goal
 
 pub slice_bounds-tell-end : goal.slice_bounds-tell-end
-slice_bounds-tell-end g c = (was_read c.prepare-r.ensures _ c.in-Read.is).1
+slice_bounds-tell-end g c = (was_read c.prepare-r.ensures _ c.in-Ok.is).1
 
-pub slice_bounds-tell-end-in-Read : goal.slice_bounds-tell-end-in-Read
-slice_bounds-tell-end-in-Read g c = sym (length-take-le _ _ (was_read c.prepare-r.ensures _ c.in-Read.is).1)
+pub slice_bounds-tell-end-in-Ok : goal.slice_bounds-tell-end-in-Ok
+slice_bounds-tell-end-in-Ok g c = sym (length-take-le _ _ (was_read c.prepare-r.ensures _ c.in-Ok.is).1)
 
-pub tell-requires-clause-given_value : goal.tell-requires-clause-given_value
-tell-requires-clause-given_value g c = (was_read c.prepare-r.ensures _ c.in-Read.is).0
+pub tell-requires : goal.tell-requires
+tell-requires g c = (was_read c.prepare-r.ensures _ c.in-Ok.is).0
 
 pub slice_bounds-line-end : goal.slice_bounds-line-end
-slice_bounds-line-end g c = (was_unread c.prepare-r.ensures _ c.in-Unread.is).1
+slice_bounds-line-end g c = (was_unread c.prepare-r.ensures _ c.in-Err.is).1
 
-pub slice_bounds-say-end : goal.slice_bounds-say-end
-slice_bounds-say-end g c = sym (length-take-le _ _ (was_unread c.prepare-r.ensures _ c.in-Unread.is).1)
+pub slice_bounds-write_to-end : goal.slice_bounds-write_to-end
+slice_bounds-write_to-end g c = sym (length-take-le _ _ (was_unread c.prepare-r.ensures _ c.in-Err.is).1)
 
-pub say-requires-clause-says : goal.say-requires-clause-says
-say-requires-clause-says g c = says-no_figure _ _ _ (was_unread c.prepare-r.ensures _ c.in-Unread.is).0
+pub returns-in-Err : goal.returns-in-Err
+returns-in-Err g c = spoken (record { out = pos 2; text = take c.in-Err.n c.prepare-r.new.line }) (says-no_figure _ _ _ (was_unread c.prepare-r.ensures _ c.in-Err.is).0) c.write_to.ensures.taken

@@ -8,24 +8,16 @@ use Rattle.desk.proofs.wording.put_ending.Goals as goal
 
 pub put-requires : goal.put-requires
 unfolding text ending
-put-requires c = omega (arith, rw c.in-Full.is at c.requires.2)
-
-pub put-requires-in-End : goal.put-requires-in-End
-unfolding text ending
-put-requires-in-End c = omega (arith, rw c.in-End.is at c.requires.2)
+put-requires c = omega (arith, rw c.in-Ok.is at c.requires.2)
 
 pub put_refused_in-requires : goal.put_refused_in-requires
 unfolding text ending
-put_refused_in-requires c = let why = c.in-Refused in (c.requires.0, c.requires.1, rw (why.is, ne_eqb (number_of why.why) 0 (numbered why.why)) at c.requires.2)
+put_refused_in-requires c = rw (ne_eqb (number_of c.in-Err.field-0.refusal) 0 (numbered c.in-Err.field-0.refusal)) at (rw c.in-Err.is at c.requires.2)
 
-pub returns-in-Full : goal.returns-in-Full
+pub returns-in-Ok : goal.returns-in-Ok
 unfolding text ending
-returns-in-Full c = rw c.in-Full.is c.put.ensures
+returns-in-Ok c = rw c.in-Ok.is c.put.ensures
 
-pub returns-in-End : goal.returns-in-End
+pub returns-in-Err : goal.returns-in-Err
 unfolding text ending
-returns-in-End c = rw c.in-End.is c.put-in-End.ensures
-
-pub returns-in-Refused : goal.returns-in-Refused
-unfolding text ending
-returns-in-Refused c = let why = c.in-Refused in rw (why.is, ne_eqb (number_of why.why) 0 (numbered why.why)) c.put_refused_in.ensures
+returns-in-Err c = rw (c.in-Err.is, ne_eqb (number_of c.in-Err.field-0.refusal) 0 (numbered c.in-Err.field-0.refusal)) c.put_refused_in.ensures

@@ -1,16 +1,9 @@
-use mathlib.Core.Path.{◌≡◌, refl, ◌∙◌}
-use native.Mathlib.Omega.{arith}
-use borrow.Author.Rules.{rules}
-use Rattle.lists.proofs.Entries.{firsts-zero, firsts-turn, firsts-all}
+use Rattle.std.proofs.Common.{get_or, rules}
+use Rattle.lists.proofs.Places.{from_fn_is}
+use Rattle.election.specs.System.{no_station}
 use Rattle.figures.specs.Pieces.{counts_of}
 use Rattle.figures.proofs.leader.counts_of.Goals as goal
 
-pub loop-k-init : goal.loop-k-init
-loop-k-init c = (search rules, firsts-zero _ _)
-
-pub loop-k-preserved : goal.loop-k-preserved
-loop-k-preserved c = (search rules, firsts-turn _ _ _ _ _ (omega arith) c.loop-k.invariant.1 c.count_of.ensures)
-
 pub returns : goal.returns
 unfolding counts_of
-returns c = let e : c.loop-k.k ≡ 8 = omega arith in (rw e at c.loop-k.invariant.1) ∙ firsts-all 8 _ _ refl
+returns c = from_fn_is _ _ (λ k. (get_or c.args.stations.now k no_station).incarnation) (λ i y q h. search rules) _ 8 c.from_fn.ensures.items

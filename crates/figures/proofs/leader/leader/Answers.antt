@@ -7,7 +7,7 @@ use Rattle.figures.proofs.Leading.{led-turn, led-all}
 use Rattle.figures.proofs.leader.leader.Goals as goal
 
 pub loop-k-preserved : goal.loop-k-preserved
-loop-k-preserved c = let eight : length c.args.stations ≤ 8 = omega arith in
+loop-k-preserved c = let eight : length c.args.stations.now ≤ 8 = omega arith in
     (search rules, c.loop-k.invariant.1, rw (c.first_of-l.ensures, c.up_at.ensures, c.loop-k.invariant.1) (led-turn _ _ _ eight _ c.loop-k.invariant.2))
 
 pub returns : goal.returns

@@ -1,7 +1,10 @@
+use Rattle.std.proofs.Common.{◌≡◌, ◌/◌, ◌%◌, arith}
+use Rattle.lists.specs.Entries.{over}
 use Rattle.frame.specs.Stamp.{stamp_frame}
-use Rattle.frame.proofs.Front.{six_over}
 use Rattle.frame.proofs.stamp.put_stamp.Goals as goal
 
 pub returns : goal.returns
-unfolding stamp_frame
-returns c = six_over _ _ _ _ _ _ c.args.buffer.now c.requires
+unfolding over stamp_frame
+returns c =
+    let top : c.args.stamp / 16777216 % 256 ≡ c.args.stamp / 16777216 = omega arith in
+    rw (c.copy_from_slice.ensures.after, c.to_le_bytes.ensures, top)

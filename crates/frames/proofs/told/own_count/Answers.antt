@@ -10,5 +10,5 @@ bounds-bytes-2 c = let s = (lengths _).0 (sym c.is_length.ensures ∙ c.if-is_le
 pub returns-then-is_length : goal.returns-then-is_length
 returns-then-is_length c = own-third _ (sym c.is_length.ensures ∙ c.if-is_length.true)
 
-pub returns : goal.returns
-returns c = sym (own-two _ (sym c.is_length.ensures ∙ c.if-is_length.false))
+pub returns-else-is_length : goal.returns-else-is_length
+returns-else-is_length c = sym (own-two _ (sym c.is_length.ensures ∙ c.if-is_length.false))

@@ -2,4 +2,4 @@ use Rattle.layout.proofs.Initial.{fresh-is}
 use Rattle.layout.proofs.rules.fresh.Goals as goal
 
 pub returns : goal.returns
-returns c = fresh-is _ _ c.never_started-none.ensures c.unused-empty.ensures
+returns c = fresh-is _ _ c.never_started.ensures c.unused.ensures

@@ -1,28 +1,24 @@
-use mathlib.Core.Path.{◌∙◌}
-use Prim.Native.Nat.{◌≤◌}
-use native.Mathlib.Omega.{arith}
-use lib.ListN.{length}
-use borrow.Author.Rules.{rules}
-use Rattle.listing.proofs.Scan.{seen_none, seen-turn, seen-split, seen-dark, seen-agreed, seen-agreed_dark, seats_few, seen_all, up_in, up-out}
+use Rattle.std.proofs.Common.{◌≡◌, arith, sym, ap, ◌∙◌}
+use Rattle.std.specs.Option.{option_or}
+use Rattle.listing.proofs.Scan.{some-is, kept_none, kept_turn, kept-split, kept-dark, kept-agreed, kept-agreed_dark}
 use Rattle.listing.proofs.search.search.Goals as goal
 
 pub loop-k-init : goal.loop-k-init
-loop-k-init c = let (few, within) = seats_few c.args.n c.seats-most.result c.seats-most.ensures in (search rules, few, within, seen_none _)
+loop-k-init c = kept_none _
 
-pub returns-then-leaderless-l : goal.returns-then-leaderless-l
-returns-then-leaderless-l c = seen-split _ _ _ c.loop-k.invariant.3 _ (omega (arith, c.loop-k-test.true, c.loop-k.invariant.2)) (rw (c.leaderless.ensures, c.trusts.ensures) at c.if-leaderless-l.true)
+pub returns-then-ends_search : goal.returns-then-ends_search
+returns-then-ends_search c = kept-split _ _ _ (omega arith) (c.from.ensures ∙ c.min.ensures) _ _ c.loop-k.invariant c.loop-k-test.true (sym c.ends_search.ensures ∙ c.if-ends_search.true)
 
 pub loop-k-preserved : goal.loop-k-preserved
-loop-k-preserved c = (search rules, c.loop-k.invariant.1, c.loop-k.invariant.2, rw c.leader_after-l.ensures (seen-turn _ _ _ c.loop-k.invariant.3 (rw (c.leaderless.ensures, c.trusts.ensures) at c.if-leaderless-l.false)))
+loop-k-preserved c = kept_turn _ _ _ (omega arith) (c.from.ensures ∙ c.min.ensures) _ _ c.loop-k.invariant c.loop-k-test.true (sym c.ends_search.ensures ∙ c.if-ends_search.false) (c.or-leader.ensures ∙ ap (λ m. option_or m c.loop-k.leader) c.then_some.ensures)
 
-pub returns-then-l-eq0 : goal.returns-then-l-eq0
-returns-then-l-eq0 c = let eight : length c.args.stations ≤ 8 = omega arith in let all = seen_all c.args.n _ _ eight c.seats-most.ensures _ _ c.loop-k.invariant.0 c.loop-k-test.false c.loop-k.invariant.3 in seen-dark _ _ _ all c.if-l-eq0.true
+pub returns-in-None : goal.returns-in-None
+returns-in-None c = kept-dark _ _ _ (omega arith) (c.from.ensures ∙ c.min.ensures) _ _ c.loop-k.invariant c.loop-k.auto.k-end c.loop-k-test.false c.in-None.is
 
-pub returns-then-leader : goal.returns-then-leader
-returns-then-leader c = let eight : length c.args.stations ≤ 8 = omega arith in let all = seen_all c.args.n _ _ eight c.seats-most.ensures _ _ c.loop-k.invariant.0 c.loop-k-test.false c.loop-k.invariant.3 in let some : 1 ≤ c.loop-k.l = omega (arith, c.if-l-eq0.false) in seen-agreed _ _ _ all some (up_in c.args.n _ _ eight c.seats-most.ensures _ some c.if-l-most.true ∙ c.if-leader.true)
+pub returns-in-Some : goal.returns-in-Some
+returns-in-Some c = kept-agreed _ _ _ (omega arith) (c.from.ensures ∙ c.min.ensures) _ _ c.loop-k.invariant c.loop-k.auto.k-end c.loop-k-test.false c.in-Some.is (sym c.is_up.ensures ∙ c.if-is_up.true)
 
-pub returns-else-leader : goal.returns-else-leader
-returns-else-leader c = let eight : length c.args.stations ≤ 8 = omega arith in let all = seen_all c.args.n _ _ eight c.seats-most.ensures _ _ c.loop-k.invariant.0 c.loop-k-test.false c.loop-k.invariant.3 in let some : 1 ≤ c.loop-k.l = omega (arith, c.if-l-eq0.false) in seen-agreed_dark _ _ _ all some (up_in c.args.n _ _ eight c.seats-most.ensures _ some c.if-l-most.true ∙ c.if-leader.false)
-
-pub returns-else-l-most : goal.returns-else-l-most
-returns-else-l-most c = let eight : length c.args.stations ≤ 8 = omega arith in let all = seen_all c.args.n _ _ eight c.seats-most.ensures _ _ c.loop-k.invariant.0 c.loop-k-test.false c.loop-k.invariant.3 in let some : 1 ≤ c.loop-k.l = omega (arith, c.if-l-eq0.false) in seen-agreed_dark _ _ _ all some (up-out c.args.n _ _ eight c.seats-most.ensures _ c.if-l-most.false)
+pub returns-in-Some-2 : goal.returns-in-Some-2
+returns-in-Some-2 c =
+    let same : c.in-Some-2.l ≡ c.in-Some.l = some-is (sym c.in-Some-2.is ∙ c.in-Some.is) in
+    rw same (kept-agreed_dark _ _ _ (omega arith) (c.from.ensures ∙ c.min.ensures) _ _ c.loop-k.invariant c.loop-k.auto.k-end c.loop-k-test.false c.in-Some.is (sym c.is_up.ensures ∙ c.if-is_up.false))

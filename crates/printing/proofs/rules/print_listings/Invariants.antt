@@ -1,14 +1,9 @@
-use Rattle.std.proofs.Common.{◌-◌, length, take}
-use Rattle.std.specs.Io.KnownBytes.{Appends}
-use Rattle.printing.specs.Listings.{listings}
+use Rattle.std.proofs.Common.{◌-◌, length}
 use Rattle.printing.proofs.Going.{Standing}
 use Rattle.printing.proofs.rules.print_listings.Given as goal
 
-abbrev pub invariant-loop-buffer : goal.invariant-loop-buffer
-invariant-loop-buffer g l = record {
-  stands : Standing l.bytes l.done l.buffer l.s l.at;
-  bytes : Appends (g.W.Write.contents l.fn.writer) (g.W.Write.contents l.writer) (take l.done (listings l.bytes));
-}
+abbrev pub invariant-loop-cut : goal.invariant-loop-cut
+invariant-loop-cut g l = Standing l.bytes l.buffer l.s l.at l.size (g.W.Write.contents l.fn.writer) (g.W.Write.contents l.writer)
 
-abbrev pub decreases-loop-buffer : goal.decreases-loop-buffer
-decreases-loop-buffer g l = length l.bytes - l.at
+abbrev pub decreases-loop-cut : goal.decreases-loop-cut
+decreases-loop-cut g l = length l.bytes - l.at

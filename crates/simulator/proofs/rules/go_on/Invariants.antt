@@ -1,19 +1,11 @@
--- What each loop of rules::go_on keeps.
+-- What the loop of rules::go_on keeps.
 use mathlib.Core.Path.{◌≡◌}
-use Prim.Native.Nat.{◌-◌, ◌<◌, ◌≤◌}
+use Prim.Native.Nat.{◌-◌}
 use lib.ListN.{length}
 use Rattle.election.specs.Idle.{Still}
-use Rattle.election.specs.System.{places}
 use Rattle.layout.specs.Layout.{system_of}
-use Rattle.layout.proofs.Stores.{Clearing}
 use Rattle.simulator.proofs.Turns.{Going}
 use Rattle.simulator.proofs.rules.go_on.Given as goal
-
-abbrev pub invariant-loop-i : goal.invariant-loop-i
-invariant-loop-i l = (l.i ≤ places) × (l.link < 64) × Clearing l.link l.initial.s l.s 0 l.i
-
-abbrev pub decreases-loop-i : goal.decreases-loop-i
-decreases-loop-i l = places - l.i
 
 abbrev pub invariant-loop-at : goal.invariant-loop-at
 invariant-loop-at l =

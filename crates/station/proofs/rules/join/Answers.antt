@@ -1,16 +1,8 @@
-use mathlib.Core.Path.{◌≡◌, ◌∙◌}
-use native.Mathlib.Omega.{arith}
-use borrow.Author.Rules.{rules}
-use Rattle.lists.proofs.Entries.{firsts-zero, firsts-turn, firsts-all}
+use Rattle.std.proofs.Common.{get_or, max, rules}
 use Rattle.station.specs.Rules.{joined}
+use Rattle.lists.proofs.Places.{from_fn_is}
 use Rattle.station.proofs.rules.join.Goals as goal
-
-pub loop-k-init : goal.loop-k-init
-loop-k-init c = (search rules, firsts-zero _ _)
-
-pub loop-k-preserved : goal.loop-k-preserved
-loop-k-preserved c = (search rules, firsts-turn _ _ _ _ _ (omega (arith, c.well_formed.0.1.0.1)) c.loop-k.invariant.1 c.larger.ensures)
 
 pub returns : goal.returns
 unfolding joined
-returns c = let e : c.loop-k.k ≡ 8 = omega arith in (rw e at c.loop-k.invariant.1) ∙ firsts-all 8 _ _ c.well_formed.0.1.0.1
+returns c = from_fn_is _ _ (λ k. max (get_or c.args.counts k 0) (get_or c.args.others k 0)) (λ i y q h. search rules) _ 8 c.from_fn.ensures.items

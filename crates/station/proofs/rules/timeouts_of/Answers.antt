@@ -1,16 +1,8 @@
-use mathlib.Core.Path.{◌≡◌, refl, ◌∙◌}
-use native.Mathlib.Omega.{arith}
-use borrow.Author.Rules.{rules}
-use Rattle.lists.proofs.Entries.{firsts-zero, firsts-turn, firsts-all}
-use Rattle.station.specs.Rules.{timeouts_of}
+use Rattle.std.proofs.Common.{rules, cond}
+use Rattle.station.specs.Rules.{timeouts_of, other}
+use Rattle.lists.proofs.Places.{from_fn_is}
 use Rattle.station.proofs.rules.timeouts_of.Goals as goal
-
-pub loop-k-init : goal.loop-k-init
-loop-k-init c = (search rules, firsts-zero _ _)
-
-pub loop-k-preserved : goal.loop-k-preserved
-loop-k-preserved c = (search rules, firsts-turn _ _ _ _ _ (omega arith) c.loop-k.invariant.1 c.timeout_at.ensures)
 
 pub returns : goal.returns
 unfolding timeouts_of
-returns c = let e : c.loop-k.k ≡ 8 = omega arith in (rw e at c.loop-k.invariant.1) ∙ firsts-all 8 _ _ refl
+returns c = from_fn_is _ _ (λ k. cond (other c.args.me c.args.n k) c.args.timeout 0) (λ i y q h. search rules) _ 8 c.from_fn.ensures.items

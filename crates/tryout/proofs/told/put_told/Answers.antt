@@ -3,53 +3,33 @@ use mathlib.Core.Path.{sym}
 use lib.Seq.{length-take-le}
 use Rattle.election.specs.Commands.{command}
 use Rattle.election.proofs.Soundness.{sound-of}
-use Rattle.tryout.proofs.Telling.{own-refusal, shown-inside, shown-after}
+use Rattle.tryout.proofs.Telling.{shown-inside, shown-after}
 use Rattle.tryout.specs.Told.{before, after, command_line, told}
-use Rattle.text.proofs.Parts.{wrote_part, room_at, room-part, room-first, ends-in}
+use Rattle.text.proofs.Parts.{wrote_part, room-part, room-first, ends-in}
 use Rattle.tryout.proofs.told.put_told.Goals as goal
 
 pub put_before-a-requires : goal.put_before-a-requires
 unfolding told
-put_before-a-requires c = (λ r. (sound-of c.args.s c.requires.0 r).n-high, (room-first (before c.args.s) (command_line (command c.args.s c.args.bytes.now).refusal c.args.bytes.now) (room-first ((before c.args.s) ++ (command_line (command c.args.s c.args.bytes.now).refusal c.args.bytes.now)) (after (command c.args.s c.args.bytes.now).system) c.requires.2)))
-
-pub slice_bounds-put_command-count : goal.slice_bounds-put_command-count
-unfolding told
-slice_bounds-put_command-count c = let one = c.put_before-a.ensures in room_at (command_line (command c.args.s c.args.bytes.now).refusal c.args.bytes.now) one (room-first ((before c.args.s) ++ (command_line (command c.args.s c.args.bytes.now).refusal c.args.bytes.now)) (after (command c.args.s c.args.bytes.now).system) c.requires.2)
-
-pub slice_bounds-put_command-start : goal.slice_bounds-put_command-start
-unfolding told
-slice_bounds-put_command-start c = let one = c.put_before-a.ensures in room_at (command_line (command c.args.s c.args.bytes.now).refusal c.args.bytes.now) one (room-first ((before c.args.s) ++ (command_line (command c.args.s c.args.bytes.now).refusal c.args.bytes.now)) (after (command c.args.s c.args.bytes.now).system) c.requires.2)
+put_before-a-requires c = (λ r. (sound-of c.args.s.now c.requires.0 r).n-high, (room-first (before c.args.s.now) (command_line (command c.args.s.now c.args.bytes.now).refusal c.args.bytes.now) (room-first ((before c.args.s.now) ++ (command_line (command c.args.s.now c.args.bytes.now).refusal c.args.bytes.now)) (after (command c.args.s.now c.args.bytes.now).system) c.requires.2)))
 
 pub put_command-requires : goal.put_command-requires
 unfolding told
-put_command-requires c = let one = c.put_before-a.ensures in (c.requires.0, own-refusal c.args.s c.args.bytes.now c.args.space.now _ c.dry_run-r.result c.requires.0 c.requires.1 c.dry_run-r.ensures, rw (own-refusal c.args.s c.args.bytes.now c.args.space.now _ c.dry_run-r.result c.requires.0 c.requires.1 c.dry_run-r.ensures) (room-part (command_line (command c.args.s c.args.bytes.now).refusal c.args.bytes.now) one (room-first ((before c.args.s) ++ (command_line (command c.args.s c.args.bytes.now).refusal c.args.bytes.now)) (after (command c.args.s c.args.bytes.now).system) c.requires.2)))
-
-pub overflow_add-b : goal.overflow_add-b
-unfolding told
-overflow_add-b c = let one = c.put_before-a.ensures in let two = rw (own-refusal c.args.s c.args.bytes.now c.args.space.now _ c.dry_run-r.result c.requires.0 c.requires.1 c.dry_run-r.ensures) at c.put_command.ensures in record { fits = ends-in (wrote_part one two) (room-first ((before c.args.s) ++ (command_line (command c.args.s c.args.bytes.now).refusal c.args.bytes.now)) (after (command c.args.s c.args.bytes.now).system) c.requires.2) c.well_formed.1.1.1.0.0 }
+put_command-requires c = let one = c.put_before-a.ensures in (c.requires.0, (room-part (command_line (command c.args.s.now c.args.bytes.now).refusal c.args.bytes.now) one (room-first ((before c.args.s.now) ++ (command_line (command c.args.s.now c.args.bytes.now).refusal c.args.bytes.now)) (after (command c.args.s.now c.args.bytes.now).system) c.requires.2)))
 
 pub slice_bounds-put_after-end : goal.slice_bounds-put_after-end
-slice_bounds-put_after-end c = shown-inside c.args.s c.args.bytes.now c.args.space.now _ c.dry_run-r.result c.requires.0 c.requires.1 c.dry_run-r.ensures
+slice_bounds-put_after-end c = shown-inside c.args.s.now c.args.bytes.now c.args.space.now _ c.dry_run-tried.result c.requires.0 c.requires.1 c.dry_run-tried.ensures
 
 pub slice_bounds-put_after-end-2 : goal.slice_bounds-put_after-end-2
-slice_bounds-put_after-end-2 c = sym (length-take-le _ _ (shown-inside c.args.s c.args.bytes.now c.args.space.now _ c.dry_run-r.result c.requires.0 c.requires.1 c.dry_run-r.ensures))
-
-pub slice_bounds-put_after-count : goal.slice_bounds-put_after-count
-unfolding told
-slice_bounds-put_after-count c = let one = c.put_before-a.ensures in let two = rw (own-refusal c.args.s c.args.bytes.now c.args.space.now _ c.dry_run-r.result c.requires.0 c.requires.1 c.dry_run-r.ensures) at c.put_command.ensures in room_at (after (command c.args.s c.args.bytes.now).system) (wrote_part one two) c.requires.2
-
-pub slice_bounds-put_after-start : goal.slice_bounds-put_after-start
-unfolding told
-slice_bounds-put_after-start c = let one = c.put_before-a.ensures in let two = rw (own-refusal c.args.s c.args.bytes.now c.args.space.now _ c.dry_run-r.result c.requires.0 c.requires.1 c.dry_run-r.ensures) at c.put_command.ensures in room_at (after (command c.args.s c.args.bytes.now).system) (wrote_part one two) c.requires.2
+slice_bounds-put_after-end-2 c = sym (length-take-le _ _ (shown-inside c.args.s.now c.args.bytes.now c.args.space.now _ c.dry_run-tried.result c.requires.0 c.requires.1 c.dry_run-tried.ensures))
 
 pub put_after-requires : goal.put_after-requires
 unfolding told
-put_after-requires c = let one = c.put_before-a.ensures in let two = rw (own-refusal c.args.s c.args.bytes.now c.args.space.now _ c.dry_run-r.result c.requires.0 c.requires.1 c.dry_run-r.ensures) at c.put_command.ensures in rw (shown-after c.args.s c.args.bytes.now c.args.space.now _ c.dry_run-r.result c.requires.0 c.requires.1 c.dry_run-r.ensures) (room-part (after (command c.args.s c.args.bytes.now).system) (wrote_part one two) c.requires.2)
+put_after-requires c = let one = c.put_before-a.ensures in let two = c.put_command.ensures in rw (shown-after c.args.s.now c.args.bytes.now c.args.space.now _ c.dry_run-tried.result c.requires.0 c.requires.1 c.dry_run-tried.ensures) (room-part (after (command c.args.s.now c.args.bytes.now).system) (wrote_part one two) c.requires.2)
 
 pub overflow_add-result : goal.overflow_add-result
 unfolding told
-overflow_add-result c = let one = c.put_before-a.ensures in let two = rw (own-refusal c.args.s c.args.bytes.now c.args.space.now _ c.dry_run-r.result c.requires.0 c.requires.1 c.dry_run-r.ensures) at c.put_command.ensures in let three = rw (shown-after c.args.s c.args.bytes.now c.args.space.now _ c.dry_run-r.result c.requires.0 c.requires.1 c.dry_run-r.ensures) at c.put_after.ensures in record { fits = ends-in (wrote_part (wrote_part one two) three) c.requires.2 c.well_formed.1.1.1.0.0 }
+overflow_add-result c = let one = c.put_before-a.ensures in let two = c.put_command.ensures in let three = rw (shown-after c.args.s.now c.args.bytes.now c.args.space.now _ c.dry_run-tried.result c.requires.0 c.requires.1 c.dry_run-tried.ensures) at c.put_after.ensures in record { fits = ends-in (wrote_part (wrote_part one two) three) c.requires.2 c.well_formed.1.1.1.0.0 }
 
 pub returns : goal.returns
 unfolding told
-returns c = let one = c.put_before-a.ensures in let two = rw (own-refusal c.args.s c.args.bytes.now c.args.space.now _ c.dry_run-r.result c.requires.0 c.requires.1 c.dry_run-r.ensures) at c.put_command.ensures in let three = rw (shown-after c.args.s c.args.bytes.now c.args.space.now _ c.dry_run-r.result c.requires.0 c.requires.1 c.dry_run-r.ensures) at c.put_after.ensures in wrote_part (wrote_part one two) three
+returns c = let one = c.put_before-a.ensures in let two = c.put_command.ensures in let three = rw (shown-after c.args.s.now c.args.bytes.now c.args.space.now _ c.dry_run-tried.result c.requires.0 c.requires.1 c.dry_run-tried.ensures) at c.put_after.ensures in wrote_part (wrote_part one two) three

@@ -1,15 +1,19 @@
-use native.Mathlib.Omega.{arith}
+use mathlib.Core.Path.{◌≡◌}
+use Rattle.std.specs.Prelude.{None}
+use borrow.Author.Rules.{rules}
 use Rattle.script.proofs.Chosen.{begun_all, begun_short, begun_other, begun_next}
 use Rattle.script.proofs.rules.finding.begin_with.Goals as goal
 
-pub returns-then-n_start-n_end : goal.returns-then-n_start-n_end
-returns-then-n_start-n_end c = begun_all c.loop-i.invariant c.word_at-n.ensures c.if-n_start-n_end.true
+pub returns-in_default : goal.returns-in_default
+returns-in_default c = begun_all c.loop-n.invariant (c.in_default.ensures {u = tt})
 
-pub returns-then-w_start-w_end : goal.returns-then-w_start-w_end
-returns-then-w_start-w_end c = begun_short c.loop-i.invariant c.word_at-n.ensures (omega (arith, c.word_at-n.ensures.order, c.if-n_start-n_end.false)) c.word_at-w.ensures c.if-w_start-w_end.true
+pub returns-in_err-w : goal.returns-in_err-w
+returns-in_err-w c =
+    let e : c.from_residual.result ≡ None = search rules in
+    rw e (begun_short c.loop-n.invariant c.in-Some.ensures c.in_err-w.ensures)
 
 pub returns-then-not-same : goal.returns-then-not-same
-returns-then-not-same c = begun_other c.loop-i.invariant c.word_at-n.ensures (omega (arith, c.word_at-n.ensures.order, c.if-n_start-n_end.false)) c.word_at-w.ensures (omega (arith, c.word_at-w.ensures.order, c.if-w_start-w_end.false)) c.same.ensures c.if-not-same.true
+returns-then-not-same c = begun_other c.loop-n.invariant c.in-Some.ensures c.in_ok-w.ensures c.same.ensures c.if-not-same.true
 
-pub loop-i-preserved : goal.loop-i-preserved
-loop-i-preserved c = begun_next c.loop-i.invariant c.word_at-n.ensures (omega (arith, c.word_at-n.ensures.order, c.if-n_start-n_end.false)) c.word_at-w.ensures (omega (arith, c.word_at-w.ensures.order, c.if-w_start-w_end.false)) c.same.ensures c.if-not-same.false
+pub loop-n-preserved : goal.loop-n-preserved
+loop-n-preserved c = begun_next c.loop-n.invariant c.in-Some.ensures c.in_ok-w.ensures c.same.ensures c.if-not-same.false

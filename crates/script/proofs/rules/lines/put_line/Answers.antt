@@ -12,7 +12,3 @@ returns-in-Nothing c = rw c.in-Nothing.is (wrote_none _)
 
 pub returns-in-Command : goal.returns-in-Command
 returns-in-Command c = rw (c.in-Command.is, encode_one) c.put_command.ensures
-
-pub returns-in-Wrong : goal.returns-in-Wrong
-unfolding encode_all
-returns-in-Wrong c = rw c.in-Wrong.is (wrote_none _)

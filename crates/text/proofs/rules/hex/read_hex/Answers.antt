@@ -1,35 +1,34 @@
-use mathlib.Core.Path.{refl, sym, ◌∙◌}
-use native.Mathlib.Omega.{arith}
-use lib.ListN.{length-set}
-use borrow.Author.Rules.{rules}
-use Rattle.text.proofs.HexText.{read_none, read_all, read-blank, read-lone, read-other, read_byte}
+use Rattle.std.proofs.Common.{rules, arith, sym, ◌∙◌}
+use mathlib.Core.Bool.{and-false}
+use Rattle.text.proofs.HexText.{no_digit, one_digit, read_none, read_all, read_blank, read_lone, read_other, read_byte}
 use Rattle.text.proofs.rules.hex.read_hex.Goals as goal
 
-pub loop-at-init : goal.loop-at-init
-loop-at-init c = (search rules, search rules, refl, read_none _ _)
+pub loop-rest-init : goal.loop-rest-init
+loop-rest-init c = (search rules, read_none _ _)
 
-pub loop-at-preserved-then-is_blank : goal.loop-at-preserved-then-is_blank
-loop-at-preserved-then-is_blank c = (search rules, search rules, search rules, read-blank c.loop-at.invariant.3 c.loop-at-test.true (sym c.is_blank.ensures ∙ c.if-is_blank.true))
+pub loop-rest-preserved-then-is_blank : goal.loop-rest-preserved-then-is_blank
+loop-rest-preserved-then-is_blank c = (search rules, read_blank c.loop-rest.invariant.1 c.in-len1-up.len_at_least (sym c.is_blank.ensures ∙ c.if-is_blank.true))
 
-pub loop-at-preserved : goal.loop-at-preserved
-loop-at-preserved c = let loop = c.loop-at in (
-  search rules,
-  search rules,
-  simp length-set (omega arith),
-  read_byte loop.invariant.3 c.loop-at-test.true
-      (sym c.is_blank.ensures ∙ c.if-is_blank.false) (omega arith)
-      c.digit_of-high.ensures c.digit_of-low.ensures c.if-not-high-low.false (omega arith),
-)
+pub returns-in_default-clause-buffer_after : goal.returns-in_default-clause-buffer_after
+returns-in_default-clause-buffer_after c = read_lone c.loop-rest.invariant.1 c.in_default.len_at_least (sym c.is_blank.ensures ∙ c.if-is_blank.false) (omega (arith, c.in_default.len_below))
 
-pub returns-clause-buffer_after : goal.returns-clause-buffer_after
-returns-clause-buffer_after c = read_all c.loop-at.invariant.3 c.loop-at-test.false
+pub returns-in_err-digit_of-in-len2-up-clause-buffer_after :
+    goal.returns-in_err-digit_of-in-len2-up-clause-buffer_after
+returns-in_err-digit_of-in-len2-up-clause-buffer_after c =
+    let other = no_digit _ (c.in_err-digit_of-in-len2-up.ensures) in
+    rw c.from_residual.ensures (read_other c.loop-rest.invariant.1 c.in-len1-up.len_at_least (sym c.is_blank.ensures ∙ c.if-is_blank.false) c.in-len2-up.len_at_least (rw other))
 
-pub returns-then-line-at-lt2-clause-buffer_after : goal.returns-then-line-at-lt2-clause-buffer_after
-returns-then-line-at-lt2-clause-buffer_after c =
-    read-lone c.loop-at.invariant.3 c.loop-at-test.true (sym c.is_blank.ensures ∙ c.if-is_blank.false) (omega arith)
+pub returns-in_err-buffer-in-len2-up-clause-buffer_after :
+    goal.returns-in_err-buffer-in-len2-up-clause-buffer_after
+returns-in_err-buffer-in-len2-up-clause-buffer_after c =
+    let other = no_digit _ (c.in_err-buffer-in-len2-up.ensures) in
+    rw c.from_residual-in_err-buffer-in-len2-up.ensures (read_other c.loop-rest.invariant.1 c.in-len1-up.len_at_least (sym c.is_blank.ensures ∙ c.if-is_blank.false) c.in-len2-up.len_at_least (rw other (and-false _)))
 
-pub returns-then-not-high-low-clause-buffer_after : goal.returns-then-not-high-low-clause-buffer_after
-returns-then-not-high-low-clause-buffer_after c =
-    read-other c.loop-at.invariant.3 c.loop-at-test.true
-    (sym c.is_blank.ensures ∙ c.if-is_blank.false) (omega arith)
-    c.digit_of-high.ensures c.digit_of-low.ensures c.if-not-high-low.true
+pub loop-rest-preserved : goal.loop-rest-preserved
+loop-rest-preserved c =
+    let (s, high) = one_digit _ (c.in_ok-digit_of-in-len2-up.ensures) in
+    let (t, low) = one_digit _ (c.in_ok-buffer-in-len2-up.ensures) in
+    (search rules, read_byte c.loop-rest.invariant.1 c.in-len1-up.len_at_least (sym c.is_blank.ensures ∙ c.if-is_blank.false) c.in-len2-up.len_at_least s t high low (omega arith))
+
+pub returns-in-empty-clause-buffer_after : goal.returns-in-empty-clause-buffer_after
+returns-in-empty-clause-buffer_after c = read_all c.loop-rest.invariant.1 (omega (arith, c.in-empty.len_below))

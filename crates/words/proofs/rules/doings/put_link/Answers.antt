@@ -1,9 +1,12 @@
-use borrow.Author.Tests.{ne_eqb}
+use borrow.Author.Tests.{eq-eqb, ne_eqb}
 use Rattle.text.specs.Quoted.{text}
-use Rattle.text.proofs.Parts.{wrote_part}
 use Rattle.words.specs.Doings.{linking}
 use Rattle.words.proofs.rules.doings.put_link.Goals as goal
 
-pub returns : goal.returns
+pub returns-then-d-eq0 : goal.returns-then-d-eq0
 unfolding text linking
-returns c = rw (ne_eqb _ _ c.if-d-eq0.false) (wrote_part c.put_pair-at.ensures c.put_named.ensures)
+returns-then-d-eq0 c = rw (eq-eqb _ _ c.if-d-eq0.true) (rw (c.named.ensures, c.named-to.ensures) at c.put.ensures)
+
+pub returns-else-d-eq0 : goal.returns-else-d-eq0
+unfolding text linking
+returns-else-d-eq0 c = rw (ne_eqb _ _ c.if-d-eq0.false) (rw (c.named-else-d-eq0.ensures, c.named-to.ensures, c.named-else-d-eq0-2.ensures) at c.put-else-d-eq0.ensures)

@@ -1,2 +1,0 @@
--- What each operation gives, accepted or refused.
-pub mod Outcomes

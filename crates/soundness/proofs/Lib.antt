@@ -1,0 +1,2 @@
+-- Tests of each place as tests of a list's elements.
+pub mod Elements
