@@ -52,7 +52,7 @@ fn count_line(line: Result<Line, Why>, size: usize, room: usize) -> Result<usize
 pub fn measure(text: &[u8], room: usize) -> Result<usize, WrongLine>
     ensures { result ≡ measured (script room text.now) }
 {
-    // (d) each line begins behind the last one, which has to be read first: no iterator over the text is plainer
+    // (d) `line_at` reads a line and tells where the next one begins; std's `split` says little of its parts
     let mut at = 0;
     let mut passed = 0;
     let mut size = 0;

@@ -21,7 +21,7 @@ pub fn line_holding(text: &[u8], offset: usize) -> usize
     requires { offset ≤ most_bytes }
     ensures { result ≡ line_holding text.now offset }
 {
-    // (d) each line begins behind the last one, which has to be read first
+    // (d) `line_at` reads a line and tells where the next one begins; std's `split` says little of its parts
     let mut at = 0;
     let mut passed = 0;
     let mut size = 0;
