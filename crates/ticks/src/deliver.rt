@@ -1,5 +1,6 @@
 // The first part of a tick: what is due is heard, sender by sender and link by link, and the rest is kept in place.
-// (d) The loops count places: the whole layout is lent on within them, or stored into, so nothing of it can be gone through meanwhile.
+// (d) The loops count places: the whole layout is lent on within them, so nothing of it can be gone through meanwhile, and `hear_due` packs a link in
+// place. `hear` goes over the marks and `clear` over a stretch as they do, by place; no other form of these two was tried.
 ghost use Rattle.std.specs.Prelude.{◌≡◌, List, Bool, false, true, ℕ, ◌+◌, ◌*◌, ◌<◌, ◌≤◌, get_or, set, length};
 ghost use Rattle.station.specs.Limits.{last_tick, longest};
 ghost use Rattle.station.specs.Order.{entry};
