@@ -17,7 +17,7 @@ use Rattle.election.specs.declared.System.{System}
 use Rattle.election.proofs.Soundness.{sound-of}
 use Rattle.std.specs.Prelude.{Result}
 use Rattle.election.specs.declared.Refusal.{Refusal}
-use Rattle.decision.specs.Decided.{Decides, Few, Sees, SeesAll, Values, Looks, decided, meaning}
+use Rattle.decision.specs.Decided.{Decides, Few, Sees, SeesAll, SeesFor, Values, Looks, decided, meaning}
 use Rattle.decision.specs.declared.Command as declared
 use Rattle.decision.specs.declared.Seen.{Seen}
 
@@ -68,20 +68,20 @@ few s seen ok v e = omega (arith, v.is-n, (sound-of s ok (v.is-ready ∙ e)).n-h
 
 module _ (s : System) (seen : Seen) (bytes : List ℕ) (ok : sound s ≡ true) where
   -- a command with its operands, decided by its own tests
-  pub understood : {c : Command} (d : Result declared.Command Refusal) (k : ℕ) → get_or bytes 0 0 ≡ k → within 1 k last_command ≡ true → decode bytes ≡ c → operands c < length bytes → Decides seen c d → Sees s seen (decode bytes) → meaning d ≡ decided (ruling s bytes) (decode bytes)
+  pub understood : {c : Command} (d : Result declared.Command Refusal) (k : ℕ) → get_or bytes 0 0 ≡ k → within 1 k last_command ≡ true → decode bytes ≡ c → operands c < length bytes → Decides seen c d → SeesFor s seen bytes → meaning d ≡ decided (ruling s bytes) (decode bytes)
   understood {c} d k is b e h m v =
-      let told : Sees s seen c = subst (Sees s seen) e v in
+      let told : Sees s seen c = (v.0, subst (Looks s seen) e (v.1 (rw e h))) in
       rw (lt-ltb 0 (length bytes) (omega arith), is, b, e, lt-ltb (operands c) (length bytes) h) (m s told (few s seen ok told.0))
 
--- enough is seen for the bytes: the station that they name, if they name one, and for a rank whether one was ever started
+-- enough is seen for the bytes: the station that they name, if they name one, and for a rank that nothing else turns down whether one was ever started
 pub sees-named : (s : System) (seen : Seen) (bytes : List ℕ) → Values s seen
     → (get_or bytes 1 0 ≤ 8 → station s (get_or bytes 1 0) ≡ station_of seen.stations.now (get_or bytes 1 0))
-    → (get_or bytes 0 0 ≡ 8 → none_started s.stations ≡ none_started seen.stations.now)
-    → Sees s seen (decode bytes)
+    → (get_or bytes 0 0 ≡ 8 → Looks s seen (Rank (get_or bytes 1 0) (get_or bytes 2 0)))
+    → SeesFor s seen bytes
 unfolding decode
 sees-named s seen bytes v named never =
     let b : ℕ = get_or bytes 0 0 in
-    (v, go (eqb b 1) (eqb b 2) (eqb b 3) (eqb b 4) (eqb b 5) (eqb b 6) (eqb b 8) (eqb b 9) refl)
+    (v, λ whole. go (eqb b 1) (eqb b 2) (eqb b 3) (eqb b 4) (eqb b 5) (eqb b 6) (eqb b 8) (eqb b 9) refl)
   where
     go : (a b c d e f g k : Bool) → eqb (get_or bytes 0 0) 8 ≡ g → Looks s seen (tree a b c d e f g k (get_or bytes 1 0) (get_or bytes 2 0) (get_or bytes 3 0))
     go true b c d e f g k is = tt
@@ -95,8 +95,8 @@ sees-named s seen bytes v named never =
     go false false false false false false false false is = tt
 
 -- so all of a system is
-pub sees-all : (s : System) (seen : Seen) (bytes : List ℕ) → SeesAll s seen → Sees s seen (decode bytes)
-sees-all s seen bytes (v, e) = sees-named s seen bytes v (λ h. ap (λ stations. station_of stations (get_or bytes 1 0)) e) (λ h. ap none_started e)
+pub sees-all : (s : System) (seen : Seen) (bytes : List ℕ) → SeesAll s seen → SeesFor s seen bytes
+sees-all s seen bytes (v, e) = sees-named s seen bytes v (λ h. ap (λ stations. station_of stations (get_or bytes 1 0)) e) (λ h ready flash named low. ap none_started e)
 
 -- what each of the nine bytes says
 module _ (bytes : List ℕ) where

@@ -1,7 +1,9 @@
 -- What is decided of a command, as the definitions have it.
-use Rattle.std.specs.Prelude.{◌≡◌, Result, Ok, Err, true, cond, ℕ, ◌≤◌, eqb, ⊤}
+use Rattle.std.specs.Prelude.{◌≡◌, Result, Ok, Err, List, true, false, cond, ℕ, ◌≤◌, ◌<◌, eqb, length, ⊤}
+use Rattle.fit.specs.Fit.{within}
 use Rattle.lists.specs.First.{first_failed}
-use Rattle.election.specs.Commands.{Command, SetUp, Start, Crash, Link, Run, Lose, Report, Rank, none_started, number_of, tests}
+use Rattle.station.specs.Limits.{most_rank}
+use Rattle.election.specs.Commands.{Command, SetUp, Start, Crash, Link, Run, Lose, Report, Rank, decode, none_started, number_of, operands, tests}
 use Rattle.election.specs.System.{station, station_of}
 use Rattle.election.specs.declared.Refusal.{Refusal}
 use Rattle.election.specs.declared.System.{System}
@@ -41,16 +43,22 @@ pub record Values (s : System) (seen : Seen) : Type 0 where
   pub is-n : s.n ≡ seen.n
   pub is-tick : s.tick ≡ seen.tick
 
--- so are the stations, as far as a command looks: at the one that it names, a rank at whether one was ever started, else at none
+-- so are the stations, as far as a command looks at them: a start or a crash at the one that it names; a rank that no other test turns down at whether one was
+-- ever started; any other command at none
 abbrev pub Looks : System → Seen → Command → Type 0
 Looks s seen (Start p) = p ≤ 8 → station s p ≡ station_of seen.stations.now p
 Looks s seen (Crash p) = p ≤ 8 → station s p ≡ station_of seen.stations.now p
-Looks s seen (Rank p r) = none_started s.stations ≡ none_started seen.stations.now
+Looks s seen (Rank p r) =
+    s.ready ≡ true → s.clock ≡ false → within 1 p s.n ≡ true → r ≤ most_rank → none_started s.stations ≡ none_started seen.stations.now
 Looks s seen _ = ⊤
 
 -- what is seen is of the system, as far as the command looks
 abbrev pub Sees : System → Seen → Command → Type 0
 Sees s seen c = Values s seen × Looks s seen c
+
+-- and of the command of the bytes, if its operands are there
+abbrev pub SeesFor : System → Seen → List ℕ → Type 0
+SeesFor s seen bytes = Values s seen × (operands (decode bytes) < length bytes → Looks s seen (decode bytes))
 
 -- what is seen is of the system, all of it
 abbrev pub SeesAll : System → Seen → Type 0

@@ -9,7 +9,7 @@ ghost use Rattle.election.specs.Commands.{SetUp, Start, Crash, Link, Run, Lose, 
 ghost use Rattle.election.specs.Sound.{sound};
 ghost use Rattle.election.specs.System.{station_of};
 ghost use Rattle.election.specs.declared.System.{System};
-ghost use Rattle.decision.specs.Decided.{Decides, Few, Sees, SeesAll, Values, decided, meaning};
+ghost use Rattle.decision.specs.Decided.{Decides, Few, SeesAll, SeesFor, Values, decided, meaning};
 
 use election::{Refusal, System};
 use station::{LAST_TICK, MOST_RANK, Station};
@@ -19,8 +19,8 @@ pub mod widths;
 // The last tick, as wide as a sum of ticks.
 const LAST: u64 = LAST_TICK as u64;
 
-// What is seen of a system. Of the stations only what the command looks at matters: the one that it names, or, for a rank, whether one
-// was ever started.
+// What is seen of a system. Of the stations only what the command looks at matters: for a start or a crash the one that it names; for a
+// rank that nothing else turns down, whether one was ever started.
 #[derive(Clone, Copy)]
 pub struct Seen<'a> {
     pub ready: bool,
@@ -207,7 +207,7 @@ fn word(low: u8, high: u8) -> u32
 // Decides on the first command of the bytes, for every sound system of which this is seen, as far as the command looks.
 #[tactic(auto, unfolding(election::specs::Commands::decode))]
 pub fn decide(seen: &Seen, bytes: &[u8]) -> Result<Command, Refusal>
-    ensures { (s : System) → sound s ≡ true → Sees s seen.now (decode bytes.now) → meaning result ≡ decided (ruling s bytes.now) (decode bytes.now) }
+    ensures { (s : System) → sound s ≡ true → SeesFor s seen.now bytes.now → meaning result ≡ decided (ruling s bytes.now) (decode bytes.now) }
 {
     match bytes {
         [1, n, period, ..] => seen.set_up(false, *n, *period),
