@@ -1,7 +1,9 @@
 -- Which bytes were taken of a text, or came into a buffer, also where a call failed.
-use Rattle.std.specs.Prelude.{◌≡◌, IfOk, List, ℕ, ◌<◌, ◌≤◌, Option, Result, MatchResult, length, take}
+use Rattle.std.specs.Prelude.{◌≡◌, IfOk, List, ℕ, ◌+◌, ◌<◌, ◌≤◌, Option, Some, Result, MatchResult, length, take}
 use Rattle.std.specs.Io.KnownBytes.{Consumes, IsAtEnd}
+use Rattle.calls.specs.Calls.{Whole}
 use Rattle.calls.specs.declared.Cut.{Cut}
+use Rattle.calls.specs.declared.Filled.{Filled}
 
 -- the last call failed, or moved nothing
 abbrev pub MovedNone : Cut → Type 0
@@ -19,15 +21,15 @@ TakenPart text Holds = (n : ℕ) × (n < length text) × Holds (take n text)
 abbrev pub TakenTo : {T : Type 0} → Result T Cut → List ℕ → (List ℕ → Type 0) → Type 0
 TakenTo result text Holds = MatchResult result (λ _. Holds text) (λ cut. CutAt cut.at text Holds)
 
--- all of it on `Ok`, some front of it on an `Err` that doesn't count
-abbrev pub Taken : {T E : Type 0} → Result T E → List ℕ → (List ℕ → Type 0) → Type 0
-Taken result text Holds = MatchResult result (λ _. Holds text) (λ _. TakenPart text Holds)
-
--- known bytes lost what came to the front of a buffer, and it is not full
-abbrev pub ReadsPart : Option (List ℕ) → Option (List ℕ) → List ℕ → Type 0
-ReadsPart before after buffer = (n : ℕ) × (n < length buffer) × Consumes before after (take n buffer)
-
--- some bytes were read: all that there were, or more than the most that matter
-pub record Read (most : ℕ) (before after : Option (List ℕ)) (bytes : List ℕ) : Type 0 where
+-- some bytes were read, with room for one more than the most that matter: all that there were, or more than the most that matter. How many they are, and that
+-- the last read found the end where there was room for more, holds of every reader.
+pub record Read (most : ℕ) (filled : Filled) (before after : Option (List ℕ)) (bytes : List ℕ) : Type 0 where
+  pub size : length bytes ≡ filled.size
+  pub bound : filled.size ≤ most + 1
+  pub whole : Whole (Some filled.last) filled.size (most + 1)
   pub consumed : Consumes before after bytes
   pub to_end : length bytes ≤ most → IsAtEnd after
+
+-- some bytes were read before a read failed: so many
+abbrev pub ReadTo : ℕ → Option (List ℕ) → Option (List ℕ) → Type 0
+ReadTo n before after = (bytes : List ℕ) × (length bytes ≡ n) × Consumes before after bytes

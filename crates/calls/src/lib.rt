@@ -1,8 +1,9 @@
 // Reading an input whole, and writing a text whole, over any reader and writer, in as many calls as it takes.
 #![tactic(auto)]
 
-ghost use Rattle.std.specs.Prelude.{◌<◌, ◌≤◌, length, take, IfErr, IfOk, IsErr};
+ghost use Rattle.std.specs.Prelude.{◌<◌, ◌≤◌, length, take, Some, IfErr, IfOk, IsErr};
 ghost use Rattle.std.specs.Io.KnownBytes.{Appends, Consumes, IsAtEnd};
+ghost use Rattle.calls.specs.Calls.{Whole};
 ghost use Rattle.calls.specs.Moved.{MovedNone, TakenTo};
 
 use std::io;
@@ -17,25 +18,40 @@ pub struct Cut {
     pub last: io::Result<usize>,
 }
 
-// Reads to the front of a buffer until it is full or the input ends; answers how many bytes came. Where a read fails, those that came before are there.
-pub fn read_whole<R: Read>(reader: &mut R, buffer: &mut [u8]) -> Result<usize, Cut>
-    ensures bound { IfOk result (λ n. n ≤ length buffer.new) }
-    ensures bytes { IfOk result (λ n. Consumes (R.remaining reader.old) (R.remaining reader.new) (take n buffer.new)) }
-    ensures end { IfOk result (λ n. n < length buffer.new → IsAtEnd (R.remaining reader.new)) }
+// How far a buffer was filled: how many bytes came, and what the last read answered: 0 where it found the end of the input, or where none was made.
+#[derive(Clone, Copy, Debug, PartialEq, Eq)]
+pub struct Filled {
+    pub size: usize,
+    pub last: usize,
+}
+
+// Reads to the front of a buffer until it is full or the input ends. Where a read fails, the bytes that came before are there.
+pub fn read_whole<R: Read>(reader: &mut R, buffer: &mut [u8]) -> Result<Filled, Cut>
+    ensures bound { IfOk result (λ filled. filled.size ≤ length buffer.new) }
+    ensures whole { IfOk result (λ filled. Whole (Some filled.last) filled.size (length buffer.new)) }
+    ensures bytes { IfOk result (λ filled. Consumes (R.remaining reader.old) (R.remaining reader.new) (take filled.size buffer.new)) }
+    ensures end { IfOk result (λ filled. filled.size < length buffer.new → IsAtEnd (R.remaining reader.new)) }
     ensures cut_bound { IfErr result (λ cut. cut.at < length buffer.new) }
     ensures cut_last { IfErr result (λ cut. IsErr cut.last) }
     ensures cut_bytes { IfErr result (λ cut. Consumes (R.remaining reader.old) (R.remaining reader.new) (take cut.at buffer.new)) }
 {
     let mut at = 0;
+    let mut came = 0;
     // a read brings as many bytes as it likes, so no iterator says where the next goes; read_exact says nothing of a short input
     while at < buffer.len() {
         match reader.read(&mut buffer[at..]) {
-            Ok(0) => return Ok(at),
-            Ok(n) => at += n,
+            Ok(0) => return Ok(Filled { size: at, last: 0 }),
+            Ok(n) => {
+                at += n;
+                came = n;
+            }
             last => return Err(Cut { at, last }),
         }
     }
-    Ok(at)
+    Ok(Filled {
+        size: at,
+        last: came,
+    })
 }
 
 // Writes a text. Where a write fails or takes nothing, a front of the text was taken, and not all of it.

@@ -1,5 +1,5 @@
 // Printing the listings of a schedule, from the fresh system, a buffer of them at a time.
-ghost use Rattle.std.specs.Prelude.{◌≤◌, length, IfErr, IfOk};
+ghost use Rattle.std.specs.Prelude.{◌^◌, ◌<◌, ◌≤◌, length, IfErr, IfOk};
 ghost use Rattle.std.specs.Io.KnownBytes.{Appends};
 ghost use Rattle.calls.specs.Moved.{MovedNone, TakenTo};
 ghost use Rattle.election.specs.Schedule.{most_bytes};
@@ -12,7 +12,7 @@ use simulator::rules::{Stop, go_on};
 use std::io::Write;
 
 // How many bytes of listings were printed, and how the schedule ended.
-#[derive(Debug, Drop)]
+#[derive(Clone, Copy, Debug, PartialEq, Eq)]
 pub struct Listed {
     pub size: usize,
     pub ended: Result<usize, Stopped>,
@@ -23,6 +23,7 @@ pub struct Listed {
 pub fn print_listings<W: Write>(writer: &mut W, bytes: &[u8]) -> Result<Listed, Cut>
     requires { length bytes.now ≤ most_bytes }
     ensures last { IfErr result MovedNone }
+    ensures few { IfErr result (λ cut. cut.at < 2 ^ 33) }
     ensures taken { TakenTo result (listings bytes.now) (Appends (W.contents writer.old) (W.contents writer.new)) }
     ensures printed { IfOk result (λ listed. Printed listed bytes.now) }
 {

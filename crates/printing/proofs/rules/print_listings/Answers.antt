@@ -18,6 +18,11 @@ pub returns-in-Err-clause-taken : goal.returns-in-Err-clause-taken
 returns-in-Err-clause-taken g c =
     part_printed c.loop-cut.invariant c.go_on-r.new.buffer c.go_on-r.new.s c.go_on-r.result c.go_on-r.ensures _ c.in-Err.cut.at c.in-Err.ensures.taken
 
+pub returns-in-Err-clause-few : goal.returns-in-Err-clause-few
+returns-in-Err-clause-few g c =
+    let inside = wrote_inside (wrote c.loop-cut.invariant c.go_on-r.new.buffer c.go_on-r.new.s c.go_on-r.result c.go_on-r.ensures) in
+    omega (arith, counted c.loop-cut.invariant c.go_on-r.new.buffer c.go_on-r.new.s c.go_on-r.result c.go_on-r.ensures c.requires c.go_on-r.auto.buffer, c.in-Err.ensures.taken.0, length-take-le _ c.go_on-r.new.buffer inside)
+
 pub overflow_add-size : goal.overflow_add-size
 overflow_add-size g c = omega (arith, counted c.loop-cut.invariant c.go_on-r.new.buffer c.go_on-r.new.s c.go_on-r.result c.go_on-r.ensures c.requires c.go_on-r.auto.buffer)
 
