@@ -22,6 +22,9 @@ mod tryouts;
 fn main(rt: HostRuntime) {
     let mut text = [0; 131_072];
     let mut bytes = [0; 65_537];
-    let size = read_whole(&mut rt.stdin(), &mut text).unwrap_or_else(|cut| cut.at);
+    let size = read_whole(&mut rt.stdin(), &mut text).map_or_else(
+        |cut| cut.at,
+        |filled| filled.size,
+    );
     table::run(&text[..size], &mut bytes, &mut rt.stdout());
 }

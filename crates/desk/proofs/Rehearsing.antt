@@ -4,12 +4,12 @@ use mathlib.Core.List.{List, ◌++◌}
 use Prim.Native.Nat.{ℕ, ◌+◌, ◌≤◌}
 use native.Mathlib.Omega.{arith}
 use Rattle.std.proofs.Common.{Option}
-use Rattle.std.specs.Prelude.{Result, Ok, Err}
+use Rattle.std.specs.Prelude.{Result, Ok, Err, IfErr}
 use Rattle.std.proofs.KnownBytes.{Appends-trans}
 use Rattle.std.specs.Io.KnownBytes.{Appends}
 use lib.IntN.{pos}
 use lib.ListN.{length, take}
-use Rattle.calls.specs.Moved.{CutAt, TakenTo}
+use Rattle.calls.specs.Moved.{CutAt, MovedNone, TakenTo}
 use Rattle.calls.specs.declared.Cut.{Cut}
 use Rattle.calls.proofs.Going.{goes_output}
 use Rattle.calls.proofs.Taken.{cut_first, cut_rest}
@@ -49,11 +49,12 @@ module _ (given bytes : List ℕ) where
       ending_cut n t = subst (λ l. CutAt (listed.size + n) l (Appends a c)) (sym all_rehearsed) (cut_rest a b c (listings bytes) (take size new) listed.size n e.size first t)
 
 -- what is said of a text
-pub rehearsal_to : (given bytes : List ℕ) → reading given ≡ Read bytes → {T : Type 0} (r : Result T Cut) (out out' err : Option (List ℕ)) → TakenTo r (rehearsed given bytes) (Appends out out') → SpokenTo mode.Rehearse given r out out' err err
+pub rehearsal_to : (given bytes : List ℕ) → reading given ≡ Read bytes → {T : Type 0} (r : Result T Cut) (out out' err : Option (List ℕ)) → IfErr r MovedNone → TakenTo r (rehearsed given bytes) (Appends out out')
+    → SpokenTo mode.Rehearse given r out out' err err
 unfolding rehearsed
-rehearsal_to given bytes e (Ok x) out out' err t = record { saying = record { out = pos 1; text = rehearsed given bytes }; says = rw e; taken = goes_output out out' err (rehearsed given bytes) t }
-rehearsal_to given bytes e (Err cut) out out' err t =
-    record { saying = record { out = pos 1; text = rehearsed given bytes }; says = rw e; taken = (cut.at, t.0, goes_output out out' err (take cut.at (rehearsed given bytes)) t.1) }
+rehearsal_to given bytes e (Ok x) out out' err last t = record { saying = record { out = pos 1; text = rehearsed given bytes }; says = rw e; taken = goes_output out out' err (rehearsed given bytes) t; last = last }
+rehearsal_to given bytes e (Err cut) out out' err last t =
+    record { saying = record { out = pos 1; text = rehearsed given bytes }; says = rw e; taken = (t.0, goes_output out out' err (take cut.at (rehearsed given bytes)) t.1); last = last }
 
 pub says-no_rehearsal : (given why : List ℕ) → reading given ≡ Unread why → Says mode.Rehearse given (record { out = pos 2; text = why })
 says-no_rehearsal given why e = rw e

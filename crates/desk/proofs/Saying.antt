@@ -6,7 +6,7 @@ use native.Mathlib.Omega.{arith}
 use lib.IntN.{pos}
 use Rattle.std.proofs.Common.{Option}
 use lib.ListN.{length, take, drop, length-append}
-use Rattle.std.specs.Prelude.{Result, Ok, Err}
+use Rattle.std.specs.Prelude.{Result, Ok, Err, IfErr}
 use Rattle.lists.specs.Entries.{over}
 use Rattle.lists.proofs.Entries.{take_over}
 use Rattle.text.specs.Wrote.{Wrote}
@@ -14,9 +14,8 @@ use Rattle.text.proofs.Parts.{wrote_front}
 use Rattle.script.specs.Shown.{Showing, Text, NoneAt, shown_text, none_at, Left, leaving, shown}
 use Rattle.script.specs.declared.NoTextAt.{NoTextAt}
 use Rattle.desk.specs.Said.{most_text, Read, Unread, reading, Saying, Says, on_error}
-use Rattle.calls.specs.Moved.{TakenTo}
+use Rattle.calls.specs.Moved.{MovedNone, TakenTo}
 use Rattle.calls.specs.declared.Cut.{Cut}
-use Rattle.calls.proofs.Taken.{cut_taken}
 use Rattle.calls.specs.Streams.{Goes}
 use Rattle.desk.specs.Spoken.{Prepares, SpokenTo}
 use Rattle.desk.specs.Wording.{no_text}
@@ -73,19 +72,11 @@ says-text given line e = rw e
 pub says-no_text : (given : List ℕ) (none : NoTextAt) {old line : List ℕ} {n : ℕ} → shown_text most_text given ≡ NoneAt none.at none.why → Wrote (no_text none.at none.why) old n line → Says mode.Text given (record { out = pos 2; text = take n line })
 says-no_text given none e w = rw e (ap on_error (wrote_front w))
 
--- what is said, where it goes, and how much of it was taken
-pub spoken : {T : Type 0} {m : Mode} {given : List ℕ} {r : Result T Cut} {out out' err err' : Option (List ℕ)} (saying : Saying) → Says m given saying → TakenTo r saying.text (Goes saying.out out out' err err')
-    → SpokenTo m given r out out' err err'
-spoken {r = r} {out} {out'} {err} {err'} saying says taken = record { saying = saying; says = says; taken = cut_taken r saying.text (Goes saying.out out out' err err') taken }
+module _ {T : Type 0} {m : Mode} {given : List ℕ} {r : Result T Cut} {out out' err err' : Option (List ℕ)} where
+  -- what is said, where it goes, how much of it was taken, and that the last write took nothing of the rest
+  pub spoken : (saying : Saying) → Says m given saying → IfErr r MovedNone → TakenTo r saying.text (Goes saying.out out out' err err') → SpokenTo m given r out out' err err'
+  spoken saying says last taken = record { saying = saying; says = says; taken = taken; last = last }
 
-module _ {T E : Type 0} {m : Mode} {given : List ℕ} {r : Result T E} {out out' err err' : Option (List ℕ)} where
   -- the same where the same is said for more
   pub said_for : SpokenTo m given r out out' err err' → (more : List ℕ) → ((x : Saying) → Says m given x → Says m more x) → SpokenTo m more r out out' err err'
-  said_for s more same = record { saying = s.saying; says = same s.saying s.says; taken = s.taken }
-
--- the same of another answer that tells as much
-pub spoken_ok : {T E U F : Type 0} {m : Mode} {given : List ℕ} (x : T) (y : U) {out out' err err' : Option (List ℕ)} → SpokenTo {E = E} m given (Ok x) out out' err err' → SpokenTo {E = F} m given (Ok y) out out' err err'
-spoken_ok x y s = record { saying = s.saying; says = s.says; taken = s.taken }
-
-pub spoken_err : {T E U F : Type 0} {m : Mode} {given : List ℕ} (x : E) (y : F) {out out' err err' : Option (List ℕ)} → SpokenTo {T = T} m given (Err x) out out' err err' → SpokenTo {T = U} m given (Err y) out out' err err'
-spoken_err x y s = record { saying = s.saying; says = s.says; taken = s.taken }
+  said_for s more same = record { saying = s.saying; says = same s.saying s.says; taken = s.taken; last = s.last }

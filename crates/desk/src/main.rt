@@ -9,7 +9,7 @@ use crate::rehearsal::say_rehearsal;
 use crate::said::{say_bytes, say_text};
 use crate::telling::say_figure;
 use arguments::gather;
-use calls::{Cut, read_whole, write_message};
+use calls::{Cut, Filled, read_whole, write_message};
 use std::io::{Read, Write};
 
 mod asked;
@@ -19,11 +19,11 @@ mod said;
 mod telling;
 mod wording;
 
-// Why the program failed, once it was asked for something: a read failed, or a write did.
-#[derive(Clone, Copy, Debug, PartialEq, Eq)]
+// Why the program failed, once it was asked for something: a read failed, or all was read that matters and a write failed or took nothing.
+#[derive(Debug, Drop)]
 pub enum Failure {
-    Read,
-    Write,
+    Read(Cut),
+    Write(Filled, Cut),
 }
 
 // Says what a mode makes of what was read.
@@ -46,7 +46,8 @@ fn answer<O: Write, E: Write>(
     }
 }
 
-// The program but for its arguments, its buffers and its messages: reads into one buffer, and says what the mode makes of it with the room of the other.
+// The program but for its arguments, its buffers and its messages: reads into one buffer, and says what the mode makes of it with the room of the other;
+// answers how much was read.
 fn run<R: Read, O: Write, E: Write>(
     reader: &mut R,
     out: &mut O,
@@ -54,14 +55,21 @@ fn run<R: Read, O: Write, E: Write>(
     mode: Mode,
     space: &mut [u8],
     spare: &mut [u8],
-) -> Result<(), Failure>
+) -> Result<Filled, Failure>
     requires space_for { SpaceFor mode (length space.old) }
     requires spare_for { SpareFor mode (length spare.old) }
     ensures { Went result mode (R.remaining reader.old) (R.remaining reader.new) space.new
         (O.contents out.old) (O.contents out.new) (E.contents err.old) (E.contents err.new) }
 {
-    let size = read_whole(reader, space).or(Err(Failure::Read))?;
-    answer(out, err, mode, &space[..size], spare).or(Err(Failure::Write))
+    // by map_err each clause of the call would have to be carried to its answer
+    let filled = match read_whole(reader, space) {
+        Ok(filled) => filled,
+        Err(cut) => return Err(Failure::Read(cut)),
+    };
+    match answer(out, err, mode, &space[..filled.size], spare) {
+        Ok(()) => Ok(filled),
+        Err(cut) => Err(Failure::Write(filled, cut)),
+    }
 }
 
 // Whether what is read is bytes, and what is made of them a text.
@@ -79,7 +87,7 @@ fn space<const N: usize>() -> [u8; N]
 }
 
 // Runs in a mode, with room for a byte more than the longest text and the longest schedule. Whichever is read comes into the larger room or the smaller one.
-fn run_in(rt: &HostRuntime, mode: Mode) -> Result<(), Failure> {
+fn run_in(rt: &HostRuntime, mode: Mode) -> Result<Filled, Failure> {
     let mut big = space::<524289>();
     let mut small = space::<65537>();
     let mut input = rt.stdin();
@@ -116,11 +124,11 @@ fn show_usage(rt: &HostRuntime) -> Result<(), Cut> {
 // Runs in a mode, and says what failed.
 fn run_or_complain(rt: &HostRuntime, mode: Mode) -> Result<(), Cut> {
     match run_in(rt, mode) {
-        Ok(()) => Ok(()),
-        Err(Failure::Read) => {
+        Ok(_) => Ok(()),
+        Err(Failure::Read(_)) => {
             write_message(&mut rt.stderr(), b"desk: reading standard input failed\n")
         }
-        Err(Failure::Write) => write_message(&mut rt.stderr(), b"desk: writing failed\n"),
+        Err(Failure::Write(..)) => write_message(&mut rt.stderr(), b"desk: writing failed\n"),
     }
 }
 

@@ -1,7 +1,7 @@
 // A rehearsal: the listings of a text's schedule, and how it ended.
-ghost use Rattle.std.specs.Prelude.{◌≡◌, ◌≤◌, length};
+ghost use Rattle.std.specs.Prelude.{◌≡◌, ◌≤◌, length, IfErr};
 ghost use Rattle.std.specs.Io.KnownBytes.{Appends};
-ghost use Rattle.calls.specs.Moved.{TakenTo};
+ghost use Rattle.calls.specs.Moved.{MovedNone, TakenTo};
 ghost use Rattle.election.specs.Schedule.{most_bytes};
 ghost use Rattle.desk.specs.Said.{rehearsed};
 ghost use Rattle.desk.specs.Spoken.{SpokenTo};
@@ -17,7 +17,8 @@ use std::io::Write;
 // Rehearses the schedule of a text. Where a write fails, a front of that was printed, and the cut counts its bytes.
 fn rehearse<O: Write>(out: &mut O, given: &[u8], bytes: &[u8]) -> Result<(), Cut>
     requires { length bytes.now ≤ most_bytes }
-    ensures { TakenTo result (rehearsed given.now bytes.now) (Appends (O.contents out.old) (O.contents out.new)) }
+    ensures last { IfErr result MovedNone }
+    ensures taken { TakenTo result (rehearsed given.now bytes.now) (Appends (O.contents out.old) (O.contents out.new)) }
 {
     let listed = print_listings(out, bytes)?;
     let mut line = io::buffer();

@@ -14,7 +14,7 @@ use text::rules::hex::{digit_of, is_blank};
 const KEPT: usize = 20;
 
 // A line as far as it is read.
-#[derive(Drop)]
+#[derive(Clone, Drop)]
 pub struct Line {
     // its number, from 1
     number: u64,

@@ -22,18 +22,21 @@ fn put_received(n: u8, leader: &Leader, buffer: &mut [u8]) -> usize
     (sender, (" n ", Decimal(u64::from(n))), (" counts ", counts)).put(buffer)
 }
 
-// Why bytes are no LEADER frame.
-#[tactic(auto, unfolding(text::specs::Quoted::text, crate::specs::Explained::reason))]
-fn reason(why: ReadError) -> &'static str
-    ensures { result.now ≡ reason (number_of why) }
+// Writes the refusal of a LEADER frame, and why: each as one word, so that a capture of many refusals is told fast.
+#[tactic(auto, unfolding(text::specs::Numbers::digits, text::specs::Quoted::text, crate::specs::Explained::reason))]
+fn put_reason(why: ReadError, buffer: &mut [u8]) -> usize
+    requires { length (refused (number_of why) (reason (number_of why))) ≤ length buffer.old }
+    ensures { Wrote (refused (number_of why) (reason (number_of why))) buffer.old result buffer.new }
 {
     match why {
-        ReadError::Stations => "n is not 2 to 8",
-        ReadError::Length => "the length is not 3 + 2n",
-        ReadError::Mark => "the first byte is neither 10 nor 11 hex",
-        ReadError::Count => "another n is written",
-        ReadError::Sender => "the sender is not 1 to n",
-        ReadError::Entry => "a count is above 4095, or the sender's own is 0",
+        ReadError::Stations => "refused 5, n is not 2 to 8".put(buffer),
+        ReadError::Length => "refused 17, the length is not 3 + 2n".put(buffer),
+        ReadError::Mark => { "refused 18, the first byte is neither 10 nor 11 hex".put(buffer) }
+        ReadError::Count => "refused 24, another n is written".put(buffer),
+        ReadError::Sender => "refused 19, the sender is not 1 to n".put(buffer),
+        ReadError::Entry => {
+            "refused 20, a count is above 4095, or the sender's own is 0".put(buffer)
+        }
     }
 }
 
@@ -48,7 +51,7 @@ fn stamp_reason(why: ReadError) -> &'static str
     }
 }
 
-// Writes a refusal and why.
+// Writes the refusal of a clock frame, and why.
 #[tactic(auto, unfolding(text::specs::Quoted::text))]
 fn put_refused(refusal: ReadError, why: &str, buffer: &mut [u8]) -> usize
     requires { length (refused (number_of refusal) why.now) ≤ length buffer.old }
@@ -66,7 +69,7 @@ fn put_answer(n: u8, answer: Result<Leader, ReadError>, buffer: &mut [u8]) -> us
 {
     match answer {
         Ok(leader) => put_received(n, &leader, buffer),
-        Err(why) => put_refused(why, reason(why), buffer),
+        Err(why) => put_reason(why, buffer),
     }
 }
 

@@ -1,6 +1,7 @@
 // All that is printed for a schedule: its listings, then the last line.
+ghost use Rattle.std.specs.Prelude.{IfErr};
 ghost use Rattle.std.specs.Io.KnownBytes.{Appends};
-ghost use Rattle.calls.specs.Moved.{TakenTo};
+ghost use Rattle.calls.specs.Moved.{MovedNone, TakenTo};
 ghost use Rattle.election.specs.Listing.{output};
 
 use calls::{Cut, write_whole};
@@ -12,7 +13,8 @@ use std::io::Write;
 // Prints what a schedule gives, from the fresh system. Where a write fails, a front of that was printed, and the cut counts its bytes.
 // Nothing else in the program writes to standard output.
 pub fn rehearse<W: Write>(writer: &mut W, bytes: &[u8]) -> Result<(), Cut>
-    ensures { TakenTo result (output bytes.now) (Appends (W.contents writer.old) (W.contents writer.new)) }
+    ensures last { IfErr result MovedNone }
+    ensures taken { TakenTo result (output bytes.now) (Appends (W.contents writer.old) (W.contents writer.new)) }
 {
     let listed = if bytes.len() > 65536 {
         Listed {

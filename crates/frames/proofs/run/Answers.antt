@@ -1,8 +1,7 @@
-use Rattle.std.proofs.Common.{◌≡◌, ◌≤◌, arith, length, take, length-take-le}
-use Rattle.calls.proofs.Taken.{value_or}
+use Rattle.std.proofs.Common.{◌≡◌, ◌≤◌, arith, length, take, length-take-le, sym, ◌∙◌}
 use Rattle.frames.specs.Line.{begin}
 use Rattle.frames.proofs.Going.{number_after}
-use Rattle.frames.proofs.Mapped.{err_is, brought}
+use Rattle.frames.proofs.Mapped.{err_is, is_wrote}
 use Rattle.frames.proofs.Moving.{reached-first, reached-on, reached-some, at_end}
 use Rattle.frames.proofs.run.Goals as goal
 
@@ -12,26 +11,27 @@ loop-init g c = record { number = rw c.begin-line.ensures (omega arith); reached
 
 pub returns-then-size-eq0 : goal.returns-then-size-eq0
 returns-then-size-eq0 g c =
-    let i = c.loop.invariant in
-    let read = brought c.read.result _ _ _ _ _ _ c.or.ensures c.in_ok-size.was c.read.ensures.bytes in
-    at_end i.reached (g.R.Read.remaining c.read.new.self) (g.W.Write.contents c.finish.new.writer) c.finish.result (rw c.if-size-eq0.true at read.0) (read.1 c.if-size-eq0.true (omega (arith, c.read.auto.buf, c.loop.auto.space, c.requires.0))) c.finish.ensures.err c.finish.ensures.taken
+    let read = c.in-Ok.ensures.bytes in
+    rw (is_wrote c.finish.result c.map_err.result c.map_err.ensures.cases)
+    (at_end c.loop.invariant.reached (g.R.Read.remaining c.read.new.self) (g.W.Write.contents c.finish.new.writer) c.finish.result (rw c.if-size-eq0.true at read.0)
+    (read.1 c.if-size-eq0.true (omega (arith, c.read.auto.buf, c.loop.auto.space, c.requires.0))) c.finish.ensures.last c.finish.ensures.taken)
 
-pub returns-in_err-tell : goal.returns-in_err-tell
-returns-in_err-tell g c =
-    let failed = c.in_err-tell.ensures in
-    let read = brought c.read.result _ _ _ _ _ _ c.or.ensures c.in_ok-size.was c.read.ensures.bytes in
-    rw (err_is _ _ c.from_residual-in_err-tell.ensures.1, failed.err) (reached-some c.loop.invariant.reached (take c.in_ok-size.size c.read.new.buf) (g.R.Read.remaining c.read.new.self) read.0 (g.W.Write.contents c.tell.new.writer) failed.taken)
+pub returns-in_err-map_err : goal.returns-in_err-map_err
+returns-in_err-map_err g c =
+    let part = take c.in-Ok.size c.read.new.buf in
+    let is = sym (is_wrote c.tell.result c.map_err-in-loop.result c.map_err-in-loop.ensures.cases) ∙ c.in_err-map_err.was in
+    rw (err_is _ _ c.from_residual.ensures.1)
+    (reached-some c.loop.invariant.reached part (g.R.Read.remaining c.read.new.self) c.in-Ok.ensures.bytes.0 (g.W.Write.contents c.tell.new.writer) c.tell.result _ is c.tell.ensures.last c.tell.ensures.taken)
 
 pub loop-preserved : goal.loop-preserved
 loop-preserved g c =
     let i = c.loop.invariant in
-    let bound = value_or c.read.result _ _ _ _ c.or.ensures c.in_ok-size.was c.read.ensures.bound in
-    let read = brought c.read.result _ _ _ _ _ _ c.or.ensures c.in_ok-size.was c.read.ensures.bytes in
-    let part = take c.in_ok-size.size c.read.new.buf in
-    let told = c.in_ok-tell.ensures in
-    let long : length part ≡ c.in_ok-size.size = length-take-le c.in_ok-size.size c.read.new.buf (omega (arith, bound)) in
-    let few : length part ≤ 1024 = omega (arith, long, bound, c.read.auto.buf, c.loop.auto.space, c.requires.1) in
+    let size = c.in-Ok.size in
+    let part = take size c.read.new.buf in
+    let long : length part ≡ size = length-take-le size c.read.new.buf (omega (arith, c.in-Ok.ensures.bound.0)) in
+    let few : length part ≤ 1024 = omega (arith, long, c.in-Ok.ensures.bound.0, c.read.auto.buf, c.loop.auto.space, c.requires.1) in
+    let is = sym (is_wrote c.tell.result c.map_err-in-loop.result c.map_err-in-loop.ensures.cases) ∙ c.in_ok-map_err.was in
     record {
-      number = rw told.line_value (omega (arith, number_after c.loop.line part, few, i.number));
-      reached = rw told.line_value (reached-on i.reached part (g.R.Read.remaining c.read.new.self) read.0 (g.W.Write.contents c.tell.new.writer) (omega (arith, long, c.if-size-eq0.false)) told.taken);
+      number = rw c.tell.ensures.line_value (omega (arith, number_after c.loop.line part, few, i.number));
+      reached = rw c.tell.ensures.line_value (reached-on i.reached part (g.R.Read.remaining c.read.new.self) c.in-Ok.ensures.bytes.0 (g.W.Write.contents c.tell.new.writer) c.tell.result _ is (omega (arith, long, c.if-size-eq0.false)) c.tell.ensures.taken);
     }

@@ -23,7 +23,7 @@ pub slice_bounds-write_to-end : goal.slice_bounds-write_to-end
 slice_bounds-write_to-end g c = sym (length-take-le _ _ (was_unread c.prepare-r.ensures _ c.in-Err.is).1)
 
 pub returns-in-Ok : goal.returns-in-Ok
-returns-in-Ok g c = rehearsal_to _ _ (was_read c.prepare-r.ensures _ c.in-Ok.is).0 c.rehearse.result _ _ _ c.rehearse.ensures
+returns-in-Ok g c = rehearsal_to _ _ (was_read c.prepare-r.ensures _ c.in-Ok.is).0 c.rehearse.result _ _ _ c.rehearse.ensures.last c.rehearse.ensures.taken
 
 pub returns-in-Err : goal.returns-in-Err
-returns-in-Err g c = spoken (record { out = pos 2; text = take c.in-Err.n c.prepare-r.new.line }) (says-no_rehearsal _ _ (was_unread c.prepare-r.ensures _ c.in-Err.is).0) c.write_to.ensures.taken
+returns-in-Err g c = spoken (record { out = pos 2; text = take c.in-Err.n c.prepare-r.new.line }) (says-no_rehearsal _ _ (was_unread c.prepare-r.ensures _ c.in-Err.is).0) c.write_to.ensures.last c.write_to.ensures.taken

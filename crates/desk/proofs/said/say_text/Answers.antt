@@ -24,7 +24,7 @@ pub slice_bounds-write_to-end-in-Err : goal.slice_bounds-write_to-end-in-Err
 slice_bounds-write_to-end-in-Err g c = sym (length-take-le _ _ (wrote_inside c.put_no_text-n.ensures))
 
 pub returns-in-Ok : goal.returns-in-Ok
-returns-in-Ok g c = spoken (record { out = pos 1; text = take c.in-Ok.n c.show-r.new.buffer }) (says-text _ _ (shows_text _ _ _ c.requires _ (rw c.in-Ok.is at c.show-r.ensures)).0) c.write_to.ensures.taken
+returns-in-Ok g c = spoken (record { out = pos 1; text = take c.in-Ok.n c.show-r.new.buffer }) (says-text _ _ (shows_text _ _ _ c.requires _ (rw c.in-Ok.is at c.show-r.ensures)).0) c.write_to.ensures.last c.write_to.ensures.taken
 
 pub returns-in-Err : goal.returns-in-Err
-returns-in-Err g c = spoken (record { out = pos 2; text = take c.put_no_text-n.result c.put_no_text-n.new.buffer }) (says-no_text _ _ (shows_none _ _ _ c.requires _ (rw c.in-Err.is at c.show-r.ensures)) c.put_no_text-n.ensures) c.write_to-in-Err.ensures.taken
+returns-in-Err g c = spoken (record { out = pos 2; text = take c.put_no_text-n.result c.put_no_text-n.new.buffer }) (says-no_text _ _ (shows_none _ _ _ c.requires _ (rw c.in-Err.is at c.show-r.ensures)) c.put_no_text-n.ensures) c.write_to-in-Err.ensures.last c.write_to-in-Err.ensures.taken

@@ -22,4 +22,4 @@ pub slice_bounds-write_to-end : goal.slice_bounds-write_to-end
 slice_bounds-write_to-end g c = sym (length-take-le _ _ (was_unread c.prepare-r.ensures _ c.in-Err.is).1)
 
 pub returns-in-Err : goal.returns-in-Err
-returns-in-Err g c = spoken (record { out = pos 2; text = take c.in-Err.n c.prepare-r.new.line }) (says-no_figure _ _ _ (was_unread c.prepare-r.ensures _ c.in-Err.is).0) c.write_to.ensures.taken
+returns-in-Err g c = spoken (record { out = pos 2; text = take c.in-Err.n c.prepare-r.new.line }) (says-no_figure _ _ _ (was_unread c.prepare-r.ensures _ c.in-Err.is).0) c.write_to.ensures.last c.write_to.ensures.taken

@@ -25,7 +25,7 @@ pub slice_bounds-write_to-end : goal.slice_bounds-write_to-end
 slice_bounds-write_to-end g c = sym (length-take-le _ _ (wrote_inside c.put_complaint-n.ensures))
 
 pub returns-in-Err : goal.returns-in-Err
-returns-in-Err g c = spoken (record { out = pos 2; text = take c.put_complaint-n.result c.put_complaint-n.new.buffer }) (says-refused _ _ _ c.schedule-r.ensures _ _ c.in-Err.is _ c.requires c.put_complaint-n.ensures) c.write_to.ensures.taken
+returns-in-Err g c = spoken (record { out = pos 2; text = take c.put_complaint-n.result c.put_complaint-n.new.buffer }) (says-refused _ _ _ c.schedule-r.ensures _ _ c.in-Err.is _ c.requires c.put_complaint-n.ensures) c.write_to.ensures.last c.write_to.ensures.taken
 
 pub put_figure-n-requires : goal.put_figure-n-requires
 put_figure-n-requires g c = rw c.bound_ticks.ensures (omega (arith, figure-room c.args.d c.schedule-r.result.system c.figures-f.result, c.buffer-line.ensures))
@@ -37,4 +37,4 @@ pub slice_bounds-write_to-end-in-Ok : goal.slice_bounds-write_to-end-in-Ok
 slice_bounds-write_to-end-in-Ok g c = sym (length-take-le _ _ (wrote_inside c.put_figure-n.ensures))
 
 pub returns-in-Ok : goal.returns-in-Ok
-returns-in-Ok g c = spoken (record { out = pos 1; text = take c.put_figure-n.result c.put_figure-n.new.buffer }) (says-figure _ _ _ c.schedule-r.ensures _ c.in-Ok.is _ c.requires _ c.figures-f.ensures (rw c.bound_ticks.ensures at c.put_figure-n.ensures)) c.write_to-in-Ok.ensures.taken
+returns-in-Ok g c = spoken (record { out = pos 1; text = take c.put_figure-n.result c.put_figure-n.new.buffer }) (says-figure _ _ _ c.schedule-r.ensures _ c.in-Ok.is _ c.requires _ c.figures-f.ensures (rw c.bound_ticks.ensures at c.put_figure-n.ensures)) c.write_to-in-Ok.ensures.last c.write_to-in-Ok.ensures.taken

@@ -1,10 +1,6 @@
 use Rattle.std.proofs.Common.{sym}
 use lib.Seq.{length-take-le}
 use Rattle.text.proofs.Parts.{wrote_front, wrote_inside}
-use Rattle.std.specs.Io.KnownBytes.{Appends}
-use Rattle.calls.proofs.Taken.{cut_taken}
-use Rattle.frames.specs.Line.{printed}
-use Rattle.frames.proofs.Mapped.{taken_mapped}
 use Rattle.frames.proofs.output.tell.Goals as goal
 
 pub slice_bounds-write_whole-end : goal.slice_bounds-write_whole-end
@@ -14,7 +10,4 @@ pub slice_bounds-write_whole-end-2 : goal.slice_bounds-write_whole-end-2
 slice_bounds-write_whole-end-2 g c = sym (length-take-le _ _ (wrote_inside c.feed-size.ensures.wrote))
 
 pub returns-clause-taken : goal.returns-clause-taken
-returns-clause-taken g c =
-    taken_mapped c.write_whole.result c.map_err.result (printed c.args.line.now c.args.bytes.now)
-    (Appends (g.W.Write.contents c.args.writer.now) (g.W.Write.contents c.write_whole.new.writer)) c.map_err.ensures.variant
-    (cut_taken c.write_whole.result (printed c.args.line.now c.args.bytes.now) (Appends (g.W.Write.contents c.args.writer.now) (g.W.Write.contents c.write_whole.new.writer)) (rw (wrote_front c.feed-size.ensures.wrote) at c.write_whole.ensures.taken))
+returns-clause-taken g c = rw (wrote_front c.feed-size.ensures.wrote) at c.write_whole.ensures.taken
