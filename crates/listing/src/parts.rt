@@ -1,6 +1,6 @@
 // The parts of a listing as texts: those of a station's line, the line, and the verdict.
-ghost use Rattle.std.specs.Prelude.{◌≡◌, ◌+◌, ◌≤◌};
-ghost use Rattle.election.specs.Listing.{status, leader_of, vector_of, known_of, kept_of, station_line, verdict_line};
+ghost use Rattle.std.specs.Prelude.{◌≡◌, ◌+◌, ◌≤◌, false};
+ghost use Rattle.election.specs.Listing.{status, leader_of, vector_of, stamp_of, known_of, kept_of, station_line, verdict_line};
 
 use election::Verdict;
 use station::Station;
@@ -9,18 +9,34 @@ use text::rules::{Counts, Decimal, Either, Joined, OrDash, Text};
 // A word and what stands behind it, - for none.
 type Named<T> = (&'static str, OrDash<T>);
 
-type Status = (Decimal, &'static str);
+// A station's number and status. It and `Known` choose their words where they write them, and keep none: so the compiler knows the length of each.
+#[derive(Clone, Copy)]
+pub struct Status {
+    number: u8,
+    up: bool,
+}
 
-// A station's number and status.
-#[tactic(auto, unfolding(election::specs::Listing::status))]
-fn status(p: u8, up: bool) -> Status
-    ensures { ⟦<Status as Text>⟧.bytes result ≡ status p up }
-{
-    let number = Decimal(u64::from(p));
-    if up {
-        (number, " up")
-    } else {
-        (number, " down")
+impl Text for Status {
+    ghost bytes = { λ shown. status shown.number shown.up };
+
+    #[tactic(auto, unfolding(election::specs::Listing::status))]
+    fn size(&self) -> usize {
+        let number = Decimal(u64::from(self.number));
+        if self.up {
+            (number, " up").size()
+        } else {
+            (number, " down").size()
+        }
+    }
+
+    #[tactic(auto, unfolding(election::specs::Listing::status))]
+    fn put(&self, buffer: &mut [u8]) -> usize {
+        let number = Decimal(u64::from(self.number));
+        if self.up {
+            (number, " up").put(buffer)
+        } else {
+            (number, " down").put(buffer)
+        }
     }
 }
 
@@ -48,20 +64,59 @@ fn vector<'a>(n: usize, up: bool, counts: &'a [u16; 8]) -> Vector<'a>
     (" rec ", OrDash(up.then_some(Joined(Counts(&counts[..n])))))
 }
 
-type Known<'a> = Either<(&'static str, Named<Decimal>), ((&'static str, Decimal), Vector<'a>)>;
+// The stamp of a clock head.
+#[tactic(auto, unfolding(election::specs::Listing::stamp_of))]
+fn stamp(x: &Station) -> Named<Decimal>
+    ensures { ⟦<Named<Decimal> as Text>⟧.bytes result ≡ stamp_of x.now.up x.now.stamp }
+{
+    (
+        " stamp ",
+        OrDash(x.up.then_some(Decimal(u64::from(x.stamp)))),
+    )
+}
+
+type Counted<'a> = ((&'static str, Decimal), Vector<'a>);
 
 // What a station knows: its count and its vector, or the stamp of a clock head.
-#[tactic(auto, unfolding(election::specs::Listing::known_of, election::specs::Listing::stamp_of))]
-fn known<'a>(clock: bool, n: usize, x: &'a Station) -> Known<'a>
-    requires { n ≤ 8 }
-    ensures { ⟦<Known<'a> as Text>⟧.bytes result ≡ known_of clock n x.now }
-{
-    if clock {
-        let stamp = OrDash(x.up.then_some(Decimal(u64::from(x.stamp))));
-        return Either::First((" inc -", (" stamp ", stamp)));
+#[derive(Clone, Copy)]
+pub struct Known<'a> {
+    clock: bool,
+    n: usize,
+    x: &'a Station,
+    ghost few: { n ≤ 8 },
+}
+
+impl<'a> Known<'a> {
+    // The count and the vector.
+    #[tactic(auto, unfolding(election::specs::Listing::known_of))]
+    fn counted(&self) -> Counted<'a>
+        ensures { ⟦<Counted<'a> as Text>⟧.bytes result ≡ known_of false self.now.n self.now.x.now }
+    {
+        let count = (" inc ", Decimal(u64::from(self.x.incarnation)));
+        (count, vector(self.n, self.x.up, &self.x.recovered))
     }
-    let count = (" inc ", Decimal(u64::from(x.incarnation)));
-    Either::Second((count, vector(n, x.up, &x.recovered)))
+}
+
+impl Text for Known<'_> {
+    ghost bytes = { λ known. known_of known.clock known.n known.x.now };
+
+    #[tactic(auto, unfolding(election::specs::Listing::known_of))]
+    fn size(&self) -> usize {
+        if self.clock {
+            (" inc -", stamp(self.x)).size()
+        } else {
+            self.counted().size()
+        }
+    }
+
+    #[tactic(auto, unfolding(election::specs::Listing::known_of))]
+    fn put(&self, buffer: &mut [u8]) -> usize {
+        if self.clock {
+            (" inc -", stamp(self.x)).put(buffer)
+        } else {
+            self.counted().put(buffer)
+        }
+    }
 }
 
 type Kept = Named<Decimal>;
@@ -85,7 +140,14 @@ pub fn line<'a>(clock: bool, n: usize, p: u8, x: &'a Station, sent: u32) -> Line
     requires { n ≤ 8 }
     ensures { ⟦<Line<'a> as Text>⟧.bytes result ≡ station_line clock n p x.now sent }
 {
-    let shown = (status(p, x.up), leader(x.up, x.leader), known(clock, n, x));
+    let shown = (
+        Status {
+            number: p,
+            up: x.up,
+        },
+        leader(x.up, x.leader),
+        Known { clock, n, x },
+    );
     (
         (
             shown,

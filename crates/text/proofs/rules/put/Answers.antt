@@ -1,9 +1,15 @@
-use Rattle.std.proofs.Common.{◌≡◌, refl, rules}
-use Rattle.lists.specs.Entries.{over}
+use Rattle.std.proofs.Common.{refl, arith}
+use lib.ListN.{length-set}
+use Rattle.text.proofs.Parts.{wrote_none, wrote_take}
 use Rattle.text.proofs.rules.put.Goals as goal
 
-pub returns : goal.returns
-unfolding over
-returns c =
-    let same : c.copy_from_slice.new.self ≡ c.args.word.now = search rules in
-    record { count = refl; bytes = rw same refl }
+pub loop-i-init : goal.loop-i-init
+loop-i-init c = record { same = refl; written = wrote_none _ }
+
+pub loop-i-preserved : goal.loop-i-preserved
+loop-i-preserved c =
+    let i = c.loop-i.invariant in
+    record {
+      same = simp length-set i.same;
+      written = wrote_take c.args.word.now 0 i.written (omega (arith, c.loop-i-test.true)) (omega (arith, c.loop-i-test.true, c.requires));
+    }
