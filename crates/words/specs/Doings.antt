@@ -1,8 +1,9 @@
 -- What an accepted command does, in words.
-use Rattle.std.specs.Prelude.{List, ◌++◌, Bool, cond, ℕ, eqb}
+use Rattle.std.specs.Prelude.{List, [], ◌++◌, Bool, cond, ℕ, eqb, Result, Ok, Err}
 use Rattle.text.specs.Numbers.{named, pair}
 use Rattle.text.specs.Quoted.{text}
 use Rattle.election.specs.Commands.{Command, SetUp, Start, Crash, Link, Run, Lose, Report, Rank}
+use Rattle.election.specs.declared.Refusal.{Refusal}
 use Rattle.decision.specs.Decided.{command_of}
 use Rattle.decision.specs.declared.Command as declared
 
@@ -30,3 +31,8 @@ doing (Rank p r) = pair (text "give station ") p (text " the rank ") r
 -- the same of a command of the code's
 abbrev pub doing_of : declared.Command → List ℕ
 doing_of c = doing (command_of c)
+
+-- and of a command that was decided on; one that is turned down does nothing
+abbrev pub decided_doing : Result declared.Command Refusal → List ℕ
+decided_doing (Ok c) = doing_of c
+decided_doing (Err why) = []

@@ -6,7 +6,7 @@ ghost use Rattle.station.specs.Limits.{last_tick};
 ghost use Rattle.script.specs.Assembled.{of_line, of_words};
 ghost use Rattle.script.specs.Encoded.{encode, encode_all};
 ghost use Rattle.script.specs.Entries.{runs, most_runs};
-ghost use Rattle.script.specs.Meanings.{made_by, Suited, ProperLine, Reads, bytes_of, most_line_bytes};
+ghost use Rattle.script.specs.Meanings.{made_by, Suited, ProperLine, Proper, Reads, bytes_of, line_bytes, most_line_bytes};
 ghost use Rattle.script.specs.Split.{words};
 
 use crate::Why;
@@ -111,4 +111,24 @@ pub fn line_size(line: Line) -> usize
 {
     let mut bytes = [0u8; 48];
     put_line(line, &mut bytes)
+}
+
+// Writes the bytes of a line as it was read; one that is wrong has none.
+#[tactic(auto, using(text::proofs::Parts::wrote_none), unfolding(crate::specs::Encoded::encode_all))]
+pub fn put_read(line: Result<Line, Why>, buffer: &mut [u8]) -> usize
+    requires { Proper line × (length (line_bytes line) ≤ length buffer.old) }
+    ensures { Wrote (line_bytes line) buffer.old result buffer.new }
+{
+    match line {
+        Ok(line) => put_line(line, buffer),
+        Err(_) => 0,
+    }
+}
+
+// The number of bytes of a line as it was read, 0 where it is wrong.
+pub fn read_size(line: Result<Line, Why>) -> usize
+    requires { Proper line }
+    ensures { (result ≡ length (line_bytes line)) × (result ≤ most_line_bytes) }
+{
+    line.map_or(0, line_size)
 }

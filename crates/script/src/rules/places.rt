@@ -1,20 +1,10 @@
 // Where in a text a byte of its schedule comes from.
-ghost use Rattle.std.specs.Prelude.{◌≡◌, ◌≤◌, length};
+ghost use Rattle.std.specs.Prelude.{◌≡◌, ◌≤◌};
 ghost use Rattle.election.specs.Schedule.{most_bytes};
-ghost use Rattle.script.specs.Meanings.{Proper, line_bytes, most_line_bytes};
 ghost use Rattle.script.specs.Places.{line_holding};
 
-use crate::Why;
 use crate::rules::assembling::line_at;
-use crate::rules::lines::{Line, line_size};
-
-// How many bytes a line has; none where it is wrong.
-fn read_size(line: Result<Line, Why>) -> usize
-    requires { Proper line }
-    ensures { (result ≡ length (line_bytes line)) × (result ≤ most_line_bytes) }
-{
-    line.map_or(0, line_size)
-}
+use crate::rules::lines::read_size;
 
 // The number of the line whose bytes hold an offset of the schedule, 0 where none does.
 pub fn line_holding(text: &[u8], offset: usize) -> usize

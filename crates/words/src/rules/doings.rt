@@ -2,9 +2,10 @@
 ghost use Rattle.std.specs.Prelude.{◌≡◌, ◌≤◌, length};
 ghost use Rattle.text.specs.Numbers.{named};
 ghost use Rattle.text.specs.Wrote.{Wrote};
-ghost use Rattle.words.specs.Doings.{setting_up, linking, doing_of};
+ghost use Rattle.words.specs.Doings.{setting_up, linking, doing_of, decided_doing};
 
 use decision::Command;
+use election::Refusal;
 use text::rules::{Decimal, Text};
 
 // A word and a number behind it.
@@ -69,5 +70,17 @@ pub fn put_doing(command: Command, buffer: &mut [u8]) -> usize
         Command::Rank { station, rank } => {
             (named("give station ", station), named(" the rank ", rank)).put(buffer)
         }
+    }
+}
+
+// Writes what a command that was decided on does; of one that is turned down, nothing.
+#[tactic(auto, using(text::proofs::Parts::wrote_none))]
+pub fn put_decided(decision: Result<Command, Refusal>, buffer: &mut [u8]) -> usize
+    requires { length (decided_doing decision) ≤ length buffer.old }
+    ensures { Wrote (decided_doing decision) buffer.old result buffer.new }
+{
+    match decision {
+        Ok(command) => put_doing(command, buffer),
+        Err(_) => 0,
     }
 }
