@@ -5,7 +5,7 @@ use std::fmt::{Display, Write};
 use std::{fmt, io};
 
 // The first 512 bytes of a line; a full one takes no more.
-#[derive(Drop)]
+#[derive(Clone, Drop)]
 pub struct Line(ArrayVec<u8, 512>);
 
 // Bytes in hex, a space before each.

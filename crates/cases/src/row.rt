@@ -174,11 +174,17 @@ impl Row {
     pub fn close(&mut self, bytes: &mut [u8]) {
         let to = self.digits / 2;
         let size = to.saturating_sub(self.group);
-        let mut end = to;
-        for _ in 1..self.numbers[62] {
-            double(bytes, self.group, size, end);
-            end = end.wrapping_add(size);
+        let more = self.numbers[62].saturating_sub(1);
+        let mut at = to;
+        for _ in 0..more {
+            // behind the last place nothing is written
+            if size == 0 || bytes.len() <= at {
+                break;
+            }
+            double(bytes, self.group, size, at);
+            at = at.wrapping_add(size);
         }
+        let end = to.wrapping_add(size.wrapping_mul(usize::try_from(more).unwrap_or(usize::MAX)));
         self.digits = end.wrapping_add(end);
     }
 }

@@ -1,4 +1,4 @@
-// The cases of try-outs: what each answers, and the buffer as it is then, to a bar. The system is only lent to a try-out.
+// The cases of try-outs: what each answers, whether the system is the same after it, and the buffer as it is then, to a bar.
 use crate::line::Line;
 use crate::row::Row;
 use dryrun::dry_run;
@@ -8,12 +8,13 @@ use election::System;
 pub fn tryout_case(name: Line, row: &Row, s: &System, bytes: &mut [u8]) -> Option<Line> {
     let (command, buffer) = bytes.split_at_mut_checked(row.part.wrapping_sub(row.cut))?;
     let command = command.get(..16).unwrap_or(command);
+    let before = *s;
     let tried = dry_run(s, command, buffer);
     let size = buffer.len();
     let line = name
         .told(tried.refusal.map(|why| why.number()), tried.written)
         .with(format_args!(" of {size}"))
-        .kept(true)
+        .kept(*s == before)
         .with("\n")
         .bytes(buffer)
         .with("|");
