@@ -43,22 +43,33 @@ pub record Values (s : System) (seen : Seen) : Type 0 where
   pub is-n : s.n ≡ seen.n
   pub is-tick : s.tick ≡ seen.tick
 
--- so are the stations, as far as a command looks at them: a start or a crash at the one that it names; a rank that no other test turns down at whether one was
--- ever started; any other command at none
+-- so are the stations, as far as a command looks: at the one that it names, a rank at whether one was ever started, else at none
 abbrev pub Looks : System → Seen → Command → Type 0
 Looks s seen (Start p) = p ≤ 8 → station s p ≡ station_of seen.stations.now p
 Looks s seen (Crash p) = p ≤ 8 → station s p ≡ station_of seen.stations.now p
-Looks s seen (Rank p r) =
-    s.ready ≡ true → s.clock ≡ false → within 1 p s.n ≡ true → r ≤ most_rank → none_started s.stations ≡ none_started seen.stations.now
+Looks s seen (Rank p r) = none_started s.stations ≡ none_started seen.stations.now
 Looks s seen _ = ⊤
 
 -- what is seen is of the system, as far as the command looks
 abbrev pub Sees : System → Seen → Command → Type 0
 Sees s seen c = Values s seen × Looks s seen c
 
+-- a decision needs no more than that: of a start or a crash the station that it names; of a rank that no other test turns down whether one was ever started; of
+-- any other command none
+abbrev pub Needs : System → Seen → Command → Type 0
+Needs s seen (Start p) = p ≤ 8 → station s p ≡ station_of seen.stations.now p
+Needs s seen (Crash p) = p ≤ 8 → station s p ≡ station_of seen.stations.now p
+Needs s seen (Rank p r) =
+    s.ready ≡ true → s.clock ≡ false → within 1 p s.n ≡ true → r ≤ most_rank → none_started s.stations ≡ none_started seen.stations.now
+Needs s seen _ = ⊤
+
+-- what is seen is of the system, as far as the decision needs it
+abbrev pub SeesEnough : System → Seen → Command → Type 0
+SeesEnough s seen c = Values s seen × Needs s seen c
+
 -- and of the command of the bytes, if its operands are there
 abbrev pub SeesFor : System → Seen → List ℕ → Type 0
-SeesFor s seen bytes = Values s seen × (operands (decode bytes) < length bytes → Looks s seen (decode bytes))
+SeesFor s seen bytes = Values s seen × (operands (decode bytes) < length bytes → Needs s seen (decode bytes))
 
 -- what is seen is of the system, all of it
 abbrev pub SeesAll : System → Seen → Type 0
@@ -68,6 +79,6 @@ SeesAll s seen = Values s seen × (s.stations ≡ seen.stations.now)
 abbrev pub Few : Seen → Type 0
 Few seen = seen.ready ≡ true → seen.n ≤ 8
 
--- what is decided of a command, of every system of which this is seen
+-- what is decided of a command, of every system of which enough is seen
 abbrev pub Decides : Seen → Command → Result declared.Command Refusal → Type 0
-Decides seen c d = (s : System) → Sees s seen c → Few seen → meaning d ≡ decided (first_failed (tests s c)) c
+Decides seen c d = (s : System) → SeesEnough s seen c → Few seen → meaning d ≡ decided (first_failed (tests s c)) c

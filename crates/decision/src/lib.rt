@@ -19,7 +19,7 @@ pub mod widths;
 // The last tick, as wide as a sum of ticks.
 const LAST: u64 = LAST_TICK as u64;
 
-// What is seen of a system. Of the stations only what the command looks at matters: for a start or a crash the one that it names; for a
+// What is seen of a system. Of the stations only what the decision needs matters: for a start or a crash the one that it names; for a
 // rank that nothing else turns down, whether one was ever started.
 #[derive(Clone, Copy)]
 pub struct Seen<'a> {
@@ -204,7 +204,7 @@ fn word(low: u8, high: u8) -> u32
     u32::from(u16::from_le_bytes([low, high]))
 }
 
-// Decides on the first command of the bytes, for every sound system of which this is seen, as far as the command looks.
+// Decides on the first command of the bytes, for every sound system of which this is seen, as far as the decision needs it.
 #[tactic(auto, unfolding(election::specs::Commands::decode))]
 pub fn decide(seen: &Seen, bytes: &[u8]) -> Result<Command, Refusal>
     ensures { (s : System) → sound s ≡ true → SeesFor s seen.now bytes.now → meaning result ≡ decided (ruling s bytes.now) (decode bytes.now) }

@@ -29,13 +29,13 @@ use Rattle.layout.specs.Layout.{system_of}
 use Rattle.layout.specs.declared.Layout.{Layout}
 use Rattle.text.specs.Wrote.{Wrote}
 use Rattle.text.proofs.Parts.{wrote_none, wrote_part, wrote_length}
-use Rattle.decision.specs.Decided.{Decided, SeesAll, SeesFor, Turned, Taken, command_of, decided}
+use Rattle.decision.specs.Decided.{Decided, Sees, SeesAll, SeesFor, Turned, Taken, command_of, decided}
 use Rattle.simulator.specs.Gone.{Gone, leaving, gone, said}
 use Rattle.simulator.specs.declared.rules.Stop.TheVariants.{Full, End, Refused}
 use Rattle.decision.specs.declared.Command as declared
 use Rattle.decision.specs.declared.Command.TheVariants as code
 use Rattle.decision.specs.declared.Seen.{Seen}
-use Rattle.decision.proofs.Bytes.{report-read, sees-all}
+use Rattle.decision.proofs.Bytes.{report-read, sees-all, sees-for}
 use Rattle.decision.proofs.Decisions.{numbered, refused-number, taken-command, taken-width}
 
 -- the command is a report
@@ -111,11 +111,17 @@ report-byte s bytes t =
 
 -- what is decided from the bytes that are lent, with what is seen of a system, is decided of it
 pub decided-of : (s : System) (seen : Seen) (bytes : List ℕ) (at : ℕ) (d : Decided) → sound s ≡ true → SeesAll s seen
-    → ((z : System) → sound z ≡ true → SeesFor z seen (take (length bytes - at) (drop at bytes)) → d ≡ decided (ruling z (take (length bytes - at) (drop at bytes))) (decode (take (length bytes - at) (drop at bytes))))
+    → ((z : System) → sound z ≡ true → Sees z seen (decode (take (length bytes - at) (drop at bytes))) → d ≡ decided (ruling z (take (length bytes - at) (drop at bytes))) (decode (take (length bytes - at) (drop at bytes))))
     → d ≡ decided (ruling s (drop at bytes)) (decode (drop at bytes))
 decided-of s seen bytes at d ok sees told =
     let all : take (length bytes - at) (drop at bytes) ≡ drop at bytes = take_all (length bytes - at) (drop at bytes) (omega (arith, length-drop at bytes)) in
     rw all at (told s ok (sees-all s seen (take (length bytes - at) (drop at bytes)) sees))
+
+-- so where enough is seen for the bytes
+pub decided-for : (s : System) (seen : Seen) (bytes : List ℕ) (at : ℕ) (d : Decided) → sound s ≡ true → SeesAll s seen
+    → ((z : System) → sound z ≡ true → SeesFor z seen (take (length bytes - at) (drop at bytes)) → d ≡ decided (ruling z (take (length bytes - at) (drop at bytes))) (decode (take (length bytes - at) (drop at bytes))))
+    → d ≡ decided (ruling s (drop at bytes)) (decode (drop at bytes))
+decided-for s seen bytes at d ok sees told = decided-of s seen bytes at d ok sees (λ z sound v. told z sound (sees-for z seen (take (length bytes - at) (drop at bytes)) v))
 
 -- where going on stands: a sound system, at an offset, with a text written to the buffer; it leads to what going on from the start leads to
 pub record Going (list : Bool) (bytes old : List ℕ) (s₀ : System) (at₀ : ℕ) (s : Layout) (at size : ℕ) (buffer : List ℕ) : Type 0 where

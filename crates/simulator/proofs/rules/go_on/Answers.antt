@@ -12,7 +12,7 @@ use Rattle.layout.specs.Layout.{system_of}
 use Rattle.text.proofs.Parts.{room-part}
 use Rattle.listing.proofs.Room.{listing-room}
 use Rattle.decision.specs.Decided.{command_of, meaning}
-use Rattle.simulator.proofs.Turns.{decided-of, unlisted, Going, going_first, same_size, ends, turned_down, taken, stops_full, further, listed}
+use Rattle.simulator.proofs.Turns.{decided-for, unlisted, Going, going_first, same_size, ends, turned_down, taken, stops_full, further, listed}
 use Rattle.simulator.proofs.rules.go_on.Goals as goal
 use Rattle.simulator.proofs.rules.go_on.Goals.{in-Report+then-list+else-buffer-size-lt-LONGEST_LISTING, in-Report+else-list, in_default}
 
@@ -22,13 +22,13 @@ loop-at-init c = (refl, going_first _ _ _ c.args.s.now _ c.requires, still_none 
 pub returns-in-Err : goal.returns-in-Err
 returns-in-Err c =
     let g = c.loop-at.invariant.1 in
-    let m = decided-of (system_of c.loop-at.s) c.seen.result c.args.bytes.now c.loop-at.at (meaning c.decide.result) g.is-sound c.seen.ensures c.decide.ensures in
+    let m = decided-for (system_of c.loop-at.s) c.seen.result c.args.bytes.now c.loop-at.at (meaning c.decide.result) g.is-sound c.seen.ensures c.decide.ensures in
     turned_down _ _ _ _ _ _ _ _ _ g c.loop-at-test.true c.in-Err.why (rw c.in-Err.is at m)
 
 pub returns-then-buffer-size-lt-LONGEST_LISTING : goal.returns-then-buffer-size-lt-LONGEST_LISTING
 returns-then-buffer-size-lt-LONGEST_LISTING c =
     let g = c.loop-at.invariant.1 in
-    let m = decided-of (system_of c.loop-at.s) c.seen.result c.args.bytes.now c.loop-at.at (meaning c.decide.result) g.is-sound c.seen.ensures c.decide.ensures in
+    let m = decided-for (system_of c.loop-at.s) c.seen.result c.args.bytes.now c.loop-at.at (meaning c.decide.result) g.is-sound c.seen.ensures c.decide.ensures in
     stops_full _ _ _ _ _ _ _ _ _ g c.loop-at-test.true Report (rw (c.in-Ok.is, c.in-Report.is) at m) (rw c.if-list.true refl)
     (omega (arith, c.if-buffer-size-lt-LONGEST_LISTING.true, c.loop-at.invariant.0))
 
@@ -36,7 +36,7 @@ pub invariant_of-shown : goal.invariant_of-shown
 invariant_of-shown c =
     let g = c.loop-at.invariant.1 in
     let s = system_of c.loop-at.s in
-    let m = decided-of s c.seen.result c.args.bytes.now c.loop-at.at (meaning c.decide.result) g.is-sound c.seen.ensures c.decide.ensures in
+    let m = decided-for s c.seen.result c.args.bytes.now c.loop-at.at (meaning c.decide.result) g.is-sound c.seen.ensures c.decide.ensures in
     let ready = accepts Report s (taken _ _ _ _ _ _ _ _ _ g c.loop-at-test.true Report (rw (c.in-Ok.is, c.in-Report.is) at m)).1 in
     record { few = (sound-of s g.is-sound ready).n-high }
 
@@ -44,7 +44,7 @@ pub write_listing-size-requires : goal.write_listing-size-requires
 write_listing-size-requires c =
     let g = c.loop-at.invariant.1 in
     let s = system_of c.loop-at.s in
-    let m = decided-of s c.seen.result c.args.bytes.now c.loop-at.at (meaning c.decide.result) g.is-sound c.seen.ensures c.decide.ensures in
+    let m = decided-for s c.seen.result c.args.bytes.now c.loop-at.at (meaning c.decide.result) g.is-sound c.seen.ensures c.decide.ensures in
     let ready = accepts Report s (taken _ _ _ _ _ _ _ _ _ g c.loop-at-test.true Report (rw (c.in-Ok.is, c.in-Report.is) at m)).1 in
     let few = (sound-of s g.is-sound ready).n-high in
     room-part (listing s) g.wrote (omega (arith, listing-room s few, c.if-buffer-size-lt-LONGEST_LISTING.false, g.wrote.count, same_size _ _ _ _ _ _ _ _ _ g, length-append g.text (listing s)))
@@ -53,7 +53,7 @@ pub overflow_add-size : goal.overflow_add-size
 overflow_add-size c =
     let g = c.loop-at.invariant.1 in
     let s = system_of c.loop-at.s in
-    let m = decided-of s c.seen.result c.args.bytes.now c.loop-at.at (meaning c.decide.result) g.is-sound c.seen.ensures c.decide.ensures in
+    let m = decided-for s c.seen.result c.args.bytes.now c.loop-at.at (meaning c.decide.result) g.is-sound c.seen.ensures c.decide.ensures in
     let ready = accepts Report s (taken _ _ _ _ _ _ _ _ _ g c.loop-at-test.true Report (rw (c.in-Ok.is, c.in-Report.is) at m)).1 in
     let fit = listing-room s (sound-of s g.is-sound ready).n-high in
     record { fits = omega (arith, c.write_listing-size.ensures.count, fit, c.if-buffer-size-lt-LONGEST_LISTING.false, c.loop-at.invariant.0, g.fits, c.well_formed.1.1.1.1.0.0) }
@@ -64,7 +64,7 @@ loop-at-preserved c =
     let g = c.loop-at.invariant.1 in
     let same = c.loop-at.invariant.0 in
     let s = system_of c.loop-at.s in
-    let m = decided-of s c.seen.result c.args.bytes.now c.loop-at.at (meaning c.decide.result) g.is-sound c.seen.ensures c.decide.ensures in
+    let m = decided-for s c.seen.result c.args.bytes.now c.loop-at.at (meaning c.decide.result) g.is-sound c.seen.ensures c.decide.ensures in
     elim c.match-command.branch [
       | in-Report+then-list+else-buffer-size-lt-LONGEST_LISTING w ↦
           let e = rw (c.in-Ok.is, w.in-Report.is) at m in
