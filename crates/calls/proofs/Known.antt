@@ -5,7 +5,7 @@ use Rattle.std.specs.Io.KnownBytes.{Consumes, IsAtEnd}
 use native.Mathlib.Decide.{dec_lt}
 use lib.Seq.{length-take-le}
 use Rattle.calls.specs.Calls.{EnoughFor, Whole}
-use Rattle.calls.specs.Moved.{Read}
+use Rattle.calls.specs.Moved.{Read, ReadFilled}
 use Rattle.calls.specs.declared.Filled.{Filled}
 
 -- what was read is a front of the input, and enough of it: the buffer is full, or the last read found the end
@@ -32,16 +32,21 @@ enough_known {made} e (Some given) left space size inside more end read =
     let enough = read_enough (Some given) left space size inside end read in
     ap made (sym enough.0) ∙ e given enough.1.0 size (length space) more enough.1.1 enough.1.2
 
--- what was read to the front of a buffer with room for a byte more than the most that matter
-pub read_most : (most : ℕ) (filled : Filled) (before after : Option (List ℕ)) (space : List ℕ) → length space ≡ most + 1 → filled.size ≤ length space
+-- what was read to the front of a buffer with room for more than the most that matter
+pub read_most : (most : ℕ) (before after : Option (List ℕ)) (space : List ℕ) (size : ℕ) → most < length space → size ≤ length space → (size < length space → IsAtEnd after)
+    → Consumes before after (take size space) → Read most before after (take size space)
+read_most most before after space size room inside end read = record { consumed = read; to_end = λ l. end (omega (arith, room, l, length-take-le size space inside)) }
+
+-- and to one with room for a byte more
+pub read_filled : (most : ℕ) (filled : Filled) (before after : Option (List ℕ)) (space : List ℕ) → length space ≡ most + 1 → filled.size ≤ length space
     → Whole (Some filled.last) filled.size (length space) → (filled.size < length space → IsAtEnd after) → Consumes before after (take filled.size space)
-    → Read most filled before after (take filled.size space)
-read_most most filled before after space room inside whole end read =
-    let long : length (take filled.size space) ≡ filled.size = length-take-le filled.size space inside in
+    → ReadFilled most filled before after (take filled.size space)
+read_filled most filled before after space room inside whole end read =
+    let all = read_most most before after space filled.size (omega (arith, room)) inside end read in
     record {
-      size = long;
+      size = length-take-le filled.size space inside;
       bound = omega (arith, room, inside);
       whole = λ l. whole (omega (arith, room, l));
-      consumed = read;
-      to_end = λ l. end (omega (arith, room, l, long));
+      consumed = all.consumed;
+      to_end = all.to_end;
     }

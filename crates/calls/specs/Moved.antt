@@ -21,9 +21,14 @@ TakenPart text Holds = (n : ℕ) × (n < length text) × Holds (take n text)
 abbrev pub TakenTo : {T : Type 0} → Result T Cut → List ℕ → (List ℕ → Type 0) → Type 0
 TakenTo result text Holds = MatchResult result (λ _. Holds text) (λ cut. CutAt cut.at text Holds)
 
--- some bytes were read, with room for one more than the most that matter: all that there were, or more than the most that matter. How many they are, and that
--- the last read found the end where there was room for more, holds of every reader.
-pub record Read (most : ℕ) (filled : Filled) (before after : Option (List ℕ)) (bytes : List ℕ) : Type 0 where
+-- some bytes were read: all that there were, or more than the most that matter
+pub record Read (most : ℕ) (before after : Option (List ℕ)) (bytes : List ℕ) : Type 0 where
+  pub consumed : Consumes before after bytes
+  pub to_end : length bytes ≤ most → IsAtEnd after
+
+-- so they were, with room for one more than the most that matter. How many they are, and that the last read found the end where there was room for more, holds of
+-- every reader.
+pub record ReadFilled (most : ℕ) (filled : Filled) (before after : Option (List ℕ)) (bytes : List ℕ) : Type 0 where
   pub size : length bytes ≡ filled.size
   pub bound : filled.size ≤ most + 1
   pub whole : Whole (Some filled.last) filled.size (most + 1)

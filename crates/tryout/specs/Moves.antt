@@ -3,7 +3,7 @@
 use Rattle.std.specs.Prelude.{List, ℕ, Option, IfSome, IsErr, Result, Ok, Err}
 use Rattle.std.specs.Io.KnownBytes.{Keeps}
 use Rattle.calls.specs.Calls.{EnoughFor}
-use Rattle.calls.specs.Moved.{CutAt, MovedNone, Read, ReadTo}
+use Rattle.calls.specs.Moved.{CutAt, MovedNone, ReadFilled, ReadTo}
 use Rattle.calls.specs.Streams.{Goes}
 use Rattle.calls.specs.declared.Filled.{Filled}
 use Rattle.election.specs.Schedule.{most_bytes}
@@ -24,10 +24,10 @@ SaidFor (Err (NotWritten filled cut)) bytes out out' err err' given = CutAt cut.
 -- how the program ended: all was read, and all is said; a read failed, and nothing is said; or all was read, and a write failed or took none of what was left
 abbrev pub Ended : Result Filled Failure → List ℕ → (before after out out' err err' : Option (List ℕ)) → Type 0
 Ended (Ok filled) bytes before after out out' err err' =
-    (given : List ℕ) × Read most_bytes filled before after given × Goes (descriptor given) out out' err err' (said given bytes)
+    (given : List ℕ) × ReadFilled most_bytes filled before after given × Goes (descriptor given) out out' err err' (said given bytes)
 Ended (Err (NotRead cut)) bytes before after out out' err err' = IsErr cut.last × ReadTo cut.at before after × Keeps out out' × Keeps err err'
 Ended (Err (NotWritten filled cut)) bytes before after out out' err err' =
-    MovedNone cut × ((given : List ℕ) × Read most_bytes filled before after given × CutAt cut.at (said given bytes) (Goes (descriptor given) out out' err err'))
+    MovedNone cut × ((given : List ℕ) × ReadFilled most_bytes filled before after given × CutAt cut.at (said given bytes) (Goes (descriptor given) out out' err err'))
 
 -- where the whole input is known, what was said for it
 abbrev pub Known : Result Filled Failure → List ℕ → (before out out' err err' : Option (List ℕ)) → Type 0

@@ -2,7 +2,7 @@ use Rattle.std.proofs.Common.{List, ℕ, ℤ, sym, take}
 use lib.Seq.{length-take-le}
 use Rattle.calls.specs.Moved.{CutAt}
 use Rattle.calls.specs.Streams.{Goes}
-use Rattle.calls.proofs.Known.{read_most}
+use Rattle.calls.proofs.Known.{read_filled}
 use Rattle.text.proofs.Parts.{wrote_inside}
 use Rattle.election.specs.Schedule.{most_bytes}
 use Rattle.tryout.proofs.Knowing.{all_said, known_said}
@@ -19,7 +19,7 @@ returns-in-Ok-write_to-clause-ended g c =
     let e = c.in-Ok.ensures in
     let goes : ℤ → List ℕ → Type 0 = λ d. Goes d (g.O.Write.contents c.args.out.now) (g.O.Write.contents c.write_to.new.out) (g.E.Write.contents c.args.err.now) (g.E.Write.contents c.write_to.new.err) in (
       take c.in-Ok.filled.size c.read_whole.new.buffer,
-      read_most most_bytes c.in-Ok.filled _ _ c.read_whole.new.buffer c.read_whole.auto.buffer e.bound e.whole e.end e.bytes,
+      read_filled most_bytes c.in-Ok.filled _ _ c.read_whole.new.buffer c.read_whole.auto.buffer e.bound e.whole e.end e.bytes,
       all_said _ _ goes c.put_said-said.ensures.wrote c.put_said-said.ensures.stream_value c.in-Ok-write_to.ensures.taken,
     )
 
@@ -37,7 +37,7 @@ returns-in-Err-write_to-clause-ended g c =
       c.in-Err-write_to.ensures.last,
       (
         take c.in-Ok.filled.size c.read_whole.new.buffer,
-        read_most most_bytes c.in-Ok.filled _ _ c.read_whole.new.buffer c.read_whole.auto.buffer e.bound e.whole e.end e.bytes,
+        read_filled most_bytes c.in-Ok.filled _ _ c.read_whole.new.buffer c.read_whole.auto.buffer e.bound e.whole e.end e.bytes,
         all_said _ _ part c.put_said-said.ensures.wrote c.put_said-said.ensures.stream_value c.in-Err-write_to.ensures.taken,
       ),
     )
