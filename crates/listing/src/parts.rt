@@ -16,6 +16,19 @@ pub struct Status {
     up: bool,
 }
 
+type StatusParts = (Decimal, &'static str);
+
+impl Status {
+    // Its number and its word, which can be taken apart and compared.
+    #[tactic(auto, unfolding(election::specs::Listing::status))]
+    pub fn parts(&self) -> StatusParts
+        ensures { ⟦<StatusParts as Text>⟧.bytes result ≡ ⟦<Status as Text>⟧.bytes self.now }
+    {
+        let word = if self.up { " up" } else { " down" };
+        (Decimal(u64::from(self.number)), word)
+    }
+}
+
 impl Text for Status {
     ghost bytes = { λ shown. status shown.number shown.up };
 
@@ -86,7 +99,21 @@ pub struct Known<'a> {
     ghost few: { n ≤ 8 },
 }
 
+type KnownParts<'a> = Either<(&'static str, Named<Decimal>), Counted<'a>>;
+
 impl<'a> Known<'a> {
+    // The stamp of a clock head, or the count and the vector, which can be taken apart and compared.
+    #[tactic(auto, unfolding(election::specs::Listing::known_of))]
+    pub fn parts(&self) -> KnownParts<'a>
+        ensures { ⟦<KnownParts<'a> as Text>⟧.bytes result ≡ ⟦<Known<'a> as Text>⟧.bytes self.now }
+    {
+        if self.clock {
+            Either::First((" inc -", stamp(self.x)))
+        } else {
+            Either::Second(self.counted())
+        }
+    }
+
     // The count and the vector.
     #[tactic(auto, unfolding(election::specs::Listing::known_of))]
     fn counted(&self) -> Counted<'a>

@@ -66,3 +66,66 @@ impl<'a> Shown<'a> {
         )
     }
 }
+
+#[cfg(test)]
+mod tests {
+    use super::*;
+    use text::rules::{Counts, Either, OrDash};
+
+    // What both kinds of heads show is in it; no head has all.
+    const DOWN: Station = Station {
+        incarnation: 3,
+        stable: 1,
+        up: false,
+        leader: 1,
+        timer: 0,
+        slot: 20,
+        recovering: false,
+        recovered: [2, 3, 1, 1, 1, 1, 1, 1],
+        timeouts: [64; 8],
+        stamp: 40,
+        lowest: 40,
+        timeout: 64,
+    };
+
+    #[test]
+    fn parts_of_lines(rt: HostRuntime) {
+        let up = Station { up: true, ..DOWN };
+        let stations = [DOWN, up, DOWN, up, DOWN, up, DOWN, up];
+        let sent = [7; 8];
+        let count = (" inc ", Decimal(3));
+        let flash = Shown {
+            clock: false,
+            n: 2,
+            tick: 20,
+            stations: &stations,
+            sent: &sent,
+        };
+
+        let (((status, _, known), _, _), _) = flash.piece(0);
+        assert_eq!(rt; status.parts(), (Decimal(1), " down"));
+        assert_eq!(rt;
+            known.parts(),
+            Either::Second((count, (" rec ", OrDash(None))))
+        );
+
+        let (((status, _, known), _, _), _) = flash.piece(1);
+        let vector = OrDash(Some(Joined(Counts(&[2, 3]))));
+        assert_eq!(rt; status.parts(), (Decimal(2), " up"));
+        assert_eq!(rt; known.parts(), Either::Second((count, (" rec ", vector))));
+
+        let clock = Shown {
+            clock: true,
+            n: 2,
+            tick: 20,
+            stations: &stations,
+            sent: &sent,
+        };
+        let (((_, _, known), _, _), _) = clock.piece(1);
+        let stamp = OrDash(Some(Decimal(40)));
+        assert_eq!(rt;
+            known.parts(),
+            Either::First((" inc -", (" stamp ", stamp)))
+        );
+    }
+}
